@@ -1,0 +1,6 @@
+pub mod Bytes
+pub mod Compute
+pub mod Rows
+pub mod Flags
+pub mod Digits
+pub mod Marked

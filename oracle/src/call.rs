@@ -1,0 +1,186 @@
+//! A call and its answer, as document 01 tells them, and the sides that answer calls.
+
+#![forbid(unsafe_code)]
+
+use std::fmt;
+
+/// Greatest length of a lent page.
+pub const GREATEST_PAGE: usize = 65_536;
+/// Greatest timer value that a call accepts.
+pub const GREATEST_TM: u16 = 511;
+/// Greatest step limit that a call accepts.
+pub const GREATEST_LIMIT: u32 = 1_000_000;
+
+/// The record: document 01, "Record and pages". Names are those of the original's fields.
+#[derive(Clone, Copy, Debug, Default, PartialEq, Eq)]
+pub struct Record {
+    pub a: u8,
+    pub t: u8,
+    pub x: u16,
+    pub y: u16,
+    pub u: u16,
+    pub s: u16,
+    pub p: u16,
+    pub is_halted: bool,
+    pub pu: bool,
+    pub pv: bool,
+    pub bf: bool,
+    pub disp: bool,
+    pub ir0: bool,
+    pub ir1: bool,
+    pub ir2: bool,
+    pub is_timer_reached: bool,
+    pub tm: u16,
+    pub timer_state: u64,
+    pub step_previous_state: u64,
+    pub ticks: u64,
+}
+
+impl Record {
+    /// The nine flags as document 01 numbers them: bit 0 is halted.
+    pub fn flags(&self) -> u16 {
+        let bits = [
+            self.is_halted,
+            self.pu,
+            self.pv,
+            self.bf,
+            self.disp,
+            self.ir0,
+            self.ir1,
+            self.ir2,
+            self.is_timer_reached,
+        ];
+        (0..9).map(|i| u16::from(bits[i]) << i).sum()
+    }
+
+    pub fn set_flags(&mut self, flags: u16) {
+        let bit = |i: u16| flags >> i & 1 == 1;
+        self.is_halted = bit(0);
+        self.pu = bit(1);
+        self.pv = bit(2);
+        self.bf = bit(3);
+        self.disp = bit(4);
+        self.ir0 = bit(5);
+        self.ir1 = bit(6);
+        self.ir2 = bit(7);
+        self.is_timer_reached = bit(8);
+    }
+}
+
+/// The record as it stands in document 01's printed line.
+impl fmt::Display for Record {
+    fn fmt(&self, f: &mut fmt::Formatter<'_>) -> fmt::Result {
+        write!(f, "{:02X} {:02X} ", self.a, self.t)?;
+        for word in [self.x, self.y, self.u, self.s, self.p] {
+            write!(f, "{word:04X} ")?;
+        }
+        write!(f, "{:03X} {:03X} ", self.tm, self.flags())?;
+        write!(f, "{} {} {}", self.timer_state, self.step_previous_state, self.ticks)
+    }
+}
+
+/// What a call is given.
+#[derive(Clone, Debug, Default, PartialEq, Eq)]
+pub struct Call {
+    pub record: Record,
+    pub keyboard: u8,
+    pub limit: u32,
+    pub pages: [Vec<u8>; 2],
+}
+
+/// A vector's two reads are marked by the model; the original's reads are all plain.
+#[derive(Clone, Copy, Debug, PartialEq, Eq)]
+pub enum AccessKind {
+    Read,
+    VectorHigh,
+    VectorLow,
+    Write,
+}
+
+/// One access: page 0 is at 0 to FFFF, page 1 at 10000 to 1FFFF.
+#[derive(Clone, Copy, Debug, PartialEq, Eq)]
+pub struct Access {
+    pub kind: AccessKind,
+    pub address: u32,
+    pub byte: u8,
+}
+
+impl Access {
+    pub fn is_write(&self) -> bool {
+        self.kind == AccessKind::Write
+    }
+
+    /// Equal but for the mark of a vector's read.
+    pub fn same(&self, other: &Access) -> bool {
+        (self.is_write(), self.address, self.byte) == (other.is_write(), other.address, other.byte)
+    }
+}
+
+impl fmt::Display for Access {
+    fn fmt(&self, f: &mut fmt::Formatter<'_>) -> fmt::Result {
+        let letter = if self.is_write() { 'W' } else { 'R' };
+        write!(f, "{letter} {:05X} {:02X}", self.address, self.byte)
+    }
+}
+
+/// The accesses of a call in order, those of a stopping step included.
+#[derive(Clone, Debug, Default, PartialEq, Eq)]
+pub struct Log {
+    pub accesses: Vec<Access>,
+    /// For each step that was tried: how many accesses were made before it.
+    pub starts: Vec<usize>,
+    /// How many accesses belong to completed steps.
+    pub completed: usize,
+}
+
+impl Log {
+    /// The writes of completed steps, in order, dropped ones included.
+    pub fn writes(&self) -> impl Iterator<Item = &Access> {
+        self.accesses[..self.completed].iter().filter(|access| access.is_write())
+    }
+
+    /// The accesses of the step with this index.
+    pub fn step(&self, index: usize) -> &[Access] {
+        let end = self.starts.get(index + 1).copied().unwrap_or(self.accesses.len());
+        &self.accesses[self.starts[index]..end]
+    }
+}
+
+/// What a call answers.
+#[derive(Clone, Debug, Default)]
+pub struct Answer {
+    pub number: u8,
+    pub byte: u8,
+    pub steps: u64,
+    pub states: u64,
+    pub record: Record,
+    pub pages: [Vec<u8>; 2],
+    /// Absent where a side does not tell its accesses.
+    pub log: Option<Log>,
+    /// A failure of the side itself: for the original, a panic that is neither 5 nor 6.
+    pub failure: Option<String>,
+}
+
+impl Answer {
+    /// The answer of a call that a condition of 1 to 4 turns down.
+    pub fn refused(call: &Call, number: u8) -> Answer {
+        Answer {
+            number,
+            record: call.record,
+            pages: call.pages.clone(),
+            log: Some(Log::default()),
+            ..Answer::default()
+        }
+    }
+
+    /// Document 01's line, without its newline.
+    pub fn line(&self) -> String {
+        format!("{} {} {} {}", self.number, self.steps, self.states, self.record)
+    }
+}
+
+/// An implementation that answers calls. The proved port becomes one more.
+pub trait Side {
+    fn name(&self) -> &'static str;
+    fn call(&mut self, call: &Call) -> Answer;
+}

@@ -1,0 +1,225 @@
+//! Random calls, the original against another side.
+
+#![forbid(unsafe_code)]
+
+use std::fmt::Write;
+
+use crate::call::{Access, AccessKind, Answer, Call, Log, Side};
+use crate::model::Model;
+use crate::opcodes::table;
+use crate::original::Original;
+use crate::progress::Progress;
+use crate::random::{self, Random};
+use crate::shrink;
+
+/// The original, the model that marks the vectors, and the side under comparison.
+pub struct Comparison {
+    original: Original,
+    model: Model,
+    side: Box<dyn Side>,
+}
+
+impl Comparison {
+    pub fn new(side: Box<dyn Side>) -> Comparison {
+        Comparison { original: Original, model: Model::default(), side }
+    }
+
+    /// The original's answer with its vector reads in document 01's order, the side's answer, and
+    /// the first difference.
+    pub fn both(&mut self, call: &Call) -> (Answer, Answer, Option<String>) {
+        let mut original = self.original.call(call);
+        let model = self.model.call(call);
+        if let (Some(log), Some(marked)) = (&mut original.log, &model.log) {
+            order_vectors(&mut log.accesses, marked);
+        }
+        let other = self.side.call(call);
+        let difference = difference(&original, &other);
+        (original, other, difference)
+    }
+
+    pub fn differs(&mut self, call: &Call) -> bool {
+        self.both(call).2.is_some()
+    }
+}
+
+/// The original's `get_mem16` reads the low byte of a vector first; document 01 has the high byte
+/// first. Nothing in the original's log tells a vector's reads from others, so the places come from
+/// the model's marks: exactly the entries that the model marks as a vector's are exchanged.
+fn order_vectors(original: &mut [Access], model: &Log) {
+    for (i, access) in model.accesses.iter().enumerate() {
+        if access.kind == AccessKind::VectorHigh && i + 1 < original.len() {
+            original.swap(i, i + 1);
+        }
+    }
+}
+
+/// The first difference between two answers, in words.
+pub fn difference(left: &Answer, right: &Answer) -> Option<String> {
+    for answer in [left, right] {
+        if let Some(message) = &answer.failure {
+            return Some(format!("failure: {message}"));
+        }
+    }
+    let numbers = [
+        ("number", u64::from(left.number), u64::from(right.number)),
+        ("byte", u64::from(left.byte), u64::from(right.byte)),
+        ("steps", left.steps, right.steps),
+        ("states", left.states, right.states),
+    ];
+    if let Some((name, left, right)) = numbers.iter().find(|(_, left, right)| left != right) {
+        return Some(format!("{name}: {left} and {right}"));
+    }
+    if left.record != right.record {
+        return Some(format!("end record: {} and {}", left.record, right.record));
+    }
+    let pages = (0..2).find_map(|page| page_difference(page, &left.pages, &right.pages));
+    pages.or_else(|| access_difference(left.log.as_ref()?, right.log.as_ref()?))
+}
+
+fn page_difference(page: usize, left: &[Vec<u8>; 2], right: &[Vec<u8>; 2]) -> Option<String> {
+    let (left, right) = (&left[page], &right[page]);
+    if left.len() != right.len() {
+        return Some(format!("length of page {page}: {} and {}", left.len(), right.len()));
+    }
+    if left == right {
+        return None;
+    }
+    let offset = (0..left.len()).find(|i| left[*i] != right[*i])?;
+    let (left, right) = (left[offset], right[offset]);
+    Some(format!("page {page} at {offset:04X}: {left:02X} and {right:02X}"))
+}
+
+fn access_difference(left: &Log, right: &Log) -> Option<String> {
+    let pairs = left.accesses.iter().zip(&right.accesses).enumerate();
+    for (i, (left, right)) in pairs {
+        if !left.same(right) {
+            return Some(format!("access {i}: {left} and {right}"));
+        }
+    }
+    let counts = (left.accesses.len(), right.accesses.len());
+    if counts.0 != counts.1 {
+        return Some(format!("number of accesses: {} and {}", counts.0, counts.1));
+    }
+    let completed = (left.completed, right.completed);
+    (completed.0 != completed.1)
+        .then(|| format!("accesses of completed steps: {} and {}", completed.0, completed.1))
+}
+
+/// What the calls of a comparison have reached.
+struct Counts {
+    steps: u64,
+    stops: [u64; 8],
+    /// How often each byte was executed, by page.
+    executed: [[u64; 256]; 2],
+    /// How often each unlisted byte stopped a call.
+    unlisted: [[u64; 256]; 2],
+    interrupts: u64,
+    most_accesses: usize,
+}
+
+impl Counts {
+    fn new() -> Counts {
+        Counts {
+            steps: 0,
+            stops: [0; 8],
+            executed: [[0; 256]; 2],
+            unlisted: [[0; 256]; 2],
+            interrupts: 0,
+            most_accesses: 0,
+        }
+    }
+
+    fn add(&mut self, answer: &Answer) {
+        self.steps += answer.steps;
+        self.stops[usize::from(answer.number)] += 1;
+        if let 5 | 6 = answer.number {
+            self.unlisted[usize::from(answer.number - 5)][usize::from(answer.byte)] += 1;
+        }
+        let Some(log) = &answer.log else { return };
+        for index in 0..answer.steps as usize {
+            self.add_step(log.step(index));
+        }
+    }
+
+    /// An instruction begins with a read of its opcode, an interrupt with a write; a step with BF
+    /// clear or IR0 set has no access.
+    fn add_step(&mut self, step: &[Access]) {
+        self.most_accesses = self.most_accesses.max(step.len());
+        match step {
+            [first, ..] if first.is_write() => self.interrupts += 1,
+            [first, second, ..] if first.byte == 0xFD => {
+                self.executed[0][0xFD] += 1;
+                self.executed[1][usize::from(second.byte)] += 1;
+            }
+            [first, ..] => self.executed[0][usize::from(first.byte)] += 1,
+            [] => {}
+        }
+    }
+
+    fn report(&self) -> String {
+        let mut text = String::from("stops:");
+        for (number, count) in self.stops.iter().enumerate() {
+            let _ = write!(text, " {number}: {count}");
+        }
+        let (interrupts, most) = (self.interrupts, self.most_accesses);
+        let _ =
+            writeln!(text, "\ninterrupts accepted: {interrupts}; most accesses in a step: {most}");
+        for (page, name) in ["first page", "after FD"].into_iter().enumerate() {
+            let reached = |counts: &[u64; 256]| counts.iter().filter(|count| **count > 0).count();
+            let listed = table()[page].iter().flatten().count();
+            let rarest = (0..256).filter(|byte| table()[page][*byte].is_some());
+            let rarest = rarest.min_by_key(|byte| self.executed[page][*byte]).unwrap_or(0);
+            let _ = writeln!(
+                text,
+                "{name}: {} of {listed} listed opcodes executed (rarest {rarest:02X}, {} times), \
+                 {} of {} unlisted met",
+                reached(&self.executed[page]),
+                self.executed[page][rarest],
+                reached(&self.unlisted[page]),
+                256 - listed,
+            );
+        }
+        text
+    }
+}
+
+/// Runs the comparison; true where no difference was found.
+pub fn run(calls: u64, seed: u64, side: Box<dyn Side>) -> bool {
+    println!("seed {seed}, original against {}", side.name());
+    let mut comparison = Comparison::new(side);
+    let mut counts = Counts::new();
+    let mut progress = Progress::new("call", calls);
+    for index in 0..calls {
+        let call = random::call(&mut Random::new(seed, index));
+        let (original, _, difference) = comparison.both(&call);
+        if difference.is_some() {
+            progress.wipe();
+            println!("call {index} differs; making it smaller");
+            report_smallest(&mut comparison, call);
+            return false;
+        }
+        counts.add(&original);
+        progress.show(index);
+    }
+    progress.wipe();
+    print!("{}", counts.report());
+    println!("{calls} calls, {} steps, 0 differences", counts.steps);
+    true
+}
+
+fn report_smallest(comparison: &mut Comparison, call: Call) {
+    let smallest = shrink::shrink(call, &mut |call| comparison.differs(call));
+    let (original, other, difference) = comparison.both(&smallest);
+    println!("smallest failing input found:");
+    print!("{}", shrink::describe(&smallest));
+    println!("original: {}", told(&original));
+    println!("{}: {}", comparison.side.name(), told(&other));
+    println!("first difference: {}", difference.unwrap_or_default());
+}
+
+/// An answer in one line: document 01's line, the byte and the accesses.
+fn told(answer: &Answer) -> String {
+    let accesses = answer.log.iter().flat_map(|log| log.accesses.iter().take(40));
+    let accesses: Vec<String> = accesses.map(Access::to_string).collect();
+    format!("{} byte {:02X} accesses {}", answer.line(), answer.byte, accesses.join(", "))
+}

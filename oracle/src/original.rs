@@ -1,0 +1,356 @@
+//! The original `lh5801.rs`, included unchanged, over the flat memory.
+//!
+//! What is the original's own: a completed step, and stops 5 and 6, which are its panics. What is
+//! this harness's own: the entry's stops 1 to 4 and stop 7, the undoing of a step that stops, and
+//! everything that the file expects of the machine around it.
+
+#![forbid(unsafe_code)]
+
+use std::any::Any;
+use std::cell::Cell;
+use std::panic::{catch_unwind, set_hook, take_hook, AssertUnwindSafe};
+use std::sync::Once;
+
+use self::lh5801::Lh5801;
+use crate::call::{
+    AccessKind, Answer, Call, Record, Side, GREATEST_LIMIT, GREATEST_PAGE, GREATEST_TM,
+};
+use crate::memory::Memory;
+
+/// The included file. Only code of this module reaches its private fields and functions.
+#[allow(dead_code, unused, clippy::all, clippy::pedantic)]
+mod lh5801 {
+    include!(env!("LH5801_RS_PATH"));
+
+    use crate::call::Record;
+
+    impl Lh5801 {
+        /// The unit with this record. Every other field is as `default()` leaves it: no reset
+        /// pending, no fast forward, no printing.
+        pub fn from_record(r: &Record) -> Lh5801 {
+            Lh5801 {
+                a: r.a,
+                t: r.t,
+                x: r.x,
+                y: r.y,
+                u: r.u,
+                s: r.s,
+                p: r.p,
+                is_halted: r.is_halted,
+                pu: r.pu,
+                pv: r.pv,
+                bf: r.bf,
+                disp: r.disp,
+                ir0: r.ir0,
+                ir1: r.ir1,
+                ir2: r.ir2,
+                is_timer_reached: r.is_timer_reached,
+                tm: r.tm,
+                timer_state: r.timer_state as usize,
+                step_previous_state: r.step_previous_state as usize,
+                ticks: r.ticks as usize,
+                ..Lh5801::default()
+            }
+        }
+
+        pub fn record(&self) -> Record {
+            Record {
+                a: self.a,
+                t: self.t,
+                x: self.x,
+                y: self.y,
+                u: self.u,
+                s: self.s,
+                p: self.p,
+                is_halted: self.is_halted,
+                pu: self.pu,
+                pv: self.pv,
+                bf: self.bf,
+                disp: self.disp,
+                ir0: self.ir0,
+                ir1: self.ir1,
+                ir2: self.ir2,
+                is_timer_reached: self.is_timer_reached,
+                tm: self.tm,
+                timer_state: self.timer_state as u64,
+                step_previous_state: self.step_previous_state as u64,
+                ticks: self.ticks as u64,
+            }
+        }
+
+        pub fn set_a_and_t(&mut self, a: u8, t: u8) {
+            self.a = a;
+            self.t = t;
+        }
+    }
+
+    /// The private arithmetic, for `oracle arithmetic`. Each acts on A and T of the unit.
+    impl Pc1500 {
+        pub fn original_adc(&mut self, operand: u8) {
+            self.adc(operand);
+        }
+        pub fn original_sbc(&mut self, operand: u8) {
+            self.sbc(operand);
+        }
+        pub fn original_cpa(&mut self, operand: u8) {
+            self.cpa(self.lh5801.a, operand);
+        }
+        pub fn original_dca(&mut self, operand: u8) {
+            self.dca(operand);
+        }
+        pub fn original_dcs(&mut self, operand: u8) {
+            self.dcs(operand);
+        }
+        pub fn original_and(&mut self, operand: u8) {
+            self.and(operand);
+        }
+        pub fn original_ora(&mut self, operand: u8) {
+            self.ora(operand);
+        }
+        pub fn original_eor(&mut self, operand: u8) {
+            self.eor(operand);
+        }
+        pub fn original_bit(&mut self, operand: u8) {
+            self.bit(self.lh5801.a, operand);
+        }
+        pub fn original_lda(&mut self, operand: u8) {
+            self.lda(operand);
+        }
+        pub fn original_inc(&mut self) {
+            self.lh5801.a = self.inc(self.lh5801.a);
+        }
+        pub fn original_dec(&mut self) {
+            self.lh5801.a = self.dec(self.lh5801.a);
+        }
+        pub fn original_rol(&mut self) {
+            self.rol();
+        }
+        pub fn original_ror(&mut self) {
+            self.ror();
+        }
+        pub fn original_shl(&mut self) {
+            self.shl();
+        }
+        pub fn original_shr(&mut self) {
+            self.shr();
+        }
+        pub fn original_check_z(&mut self, operand: u8) {
+            self.check_z(operand);
+        }
+        pub fn original_add(&mut self, left: u8, right: u8, carry: bool) -> u8 {
+            self.add_generic(left, right, carry)
+        }
+        pub fn original_decimaladd(&mut self, left: u8, right: u8, carry: bool) -> u8 {
+            self.decimaladd_generic(left, right, carry)
+        }
+        pub fn original_adr(&mut self, reg: u16) -> u16 {
+            self.adr(reg)
+        }
+    }
+}
+
+/// What the included file asks of `host_io`. Traps are left out: `host_trap` answers false.
+pub mod host_io {
+    pub const TRAP_PAGE: u16 = 0x9800;
+    pub const TRAP_PAGE_MASK: u16 = 0xF800;
+    pub const TRAP_STATES: u8 = 200;
+}
+
+/// One fixed byte in place of the keyboard.
+pub struct Keyboard {
+    byte: u8,
+}
+
+impl Keyboard {
+    pub fn input(&self) -> u8 {
+        self.byte
+    }
+
+    pub fn on_pulse_pending(&self) -> bool {
+        false
+    }
+}
+
+/// The machine that the included file is written over.
+pub struct Pc1500 {
+    pub lh5801: Lh5801,
+    pub keyboard: Keyboard,
+    pub memory: Memory,
+}
+
+impl Pc1500 {
+    pub fn new(record: &Record, keyboard: u8, pages: [Vec<u8>; 2]) -> Pc1500 {
+        Pc1500 {
+            lh5801: Lh5801::from_record(record),
+            keyboard: Keyboard { byte: keyboard },
+            memory: Memory::new(pages),
+        }
+    }
+
+    pub fn read_byte(&self, address: u32) -> u8 {
+        self.memory.read(address, AccessKind::Read)
+    }
+
+    pub fn write_byte(&mut self, address: u32, byte: u8) {
+        self.memory.write(address, byte);
+    }
+
+    pub fn host_trap(&mut self) -> bool {
+        false
+    }
+}
+
+/// Why a step of the original did not complete.
+enum Panicked {
+    Illegal { number: u8, byte: u8 },
+    Other(String),
+}
+
+thread_local! {
+    /// Set while a step of the original runs: its panics are answers and print nothing.
+    static SILENT: Cell<bool> = const { Cell::new(false) };
+}
+
+fn install_silent_hook() {
+    static INSTALLED: Once = Once::new();
+    INSTALLED.call_once(|| {
+        let previous = take_hook();
+        set_hook(Box::new(move |info| {
+            if !SILENT.get() {
+                previous(info);
+            }
+        }));
+    });
+}
+
+/// Reads the stop from a panic's message.
+fn panicked(payload: &(dyn Any + Send)) -> Panicked {
+    let text = payload.downcast_ref::<String>().map(String::as_str);
+    let message = text.or_else(|| payload.downcast_ref::<&str>().copied());
+    let message = message.unwrap_or("a panic without a message");
+    let starts = [(5, "Illegal opcode: 0x"), (6, "Illegal fd opcode: ")];
+    for (number, start) in starts {
+        let digits = message.strip_prefix(start).and_then(|rest| rest.get(..2));
+        if let Some(byte) = digits.and_then(|digits| u8::from_str_radix(digits, 16).ok()) {
+            return Panicked::Illegal { number, byte };
+        }
+    }
+    Panicked::Other(message.to_string())
+}
+
+/// One `step_cpu`.
+fn step(machine: &mut Pc1500) -> Result<(), Panicked> {
+    machine.memory.begin_step();
+    SILENT.set(true);
+    let outcome = catch_unwind(AssertUnwindSafe(|| machine.step_cpu()));
+    SILENT.set(false);
+    outcome.map_err(|payload| panicked(payload.as_ref()))
+}
+
+/// The harness's own entry stops.
+fn entry_stop(call: &Call) -> Option<u8> {
+    if call.pages[0].len() > GREATEST_PAGE {
+        Some(1)
+    } else if call.pages[1].len() > GREATEST_PAGE {
+        Some(2)
+    } else if call.record.tm > GREATEST_TM {
+        Some(3)
+    } else if call.limit == 0 || call.limit > GREATEST_LIMIT {
+        Some(4)
+    } else {
+        None
+    }
+}
+
+/// The harness's own stop 7, in place of `halted_states`. A reached timer counts as IR1.
+fn stops_halted(r: &Record) -> bool {
+    let requested = r.is_timer_reached || r.ir1 || r.ir2;
+    let accepted = requested && r.t & 0x02 != 0;
+    r.bf && r.is_halted && !r.ir0 && !accepted
+}
+
+#[derive(Default)]
+pub struct Original;
+
+impl Original {
+    /// Steps until the limit or a stop; leaves the number, byte, counts and record in the answer.
+    fn run(machine: &mut Pc1500, limit: u32, answer: &mut Answer) {
+        for _ in 0..limit {
+            let before = machine.lh5801.record();
+            answer.record = before;
+            if stops_halted(&before) {
+                answer.number = 7;
+                return;
+            }
+            if let Err(reason) = step(machine) {
+                machine.memory.undo_step();
+                match reason {
+                    Panicked::Illegal { number, byte } => {
+                        (answer.number, answer.byte) = (number, byte);
+                    }
+                    Panicked::Other(message) => answer.failure = Some(message),
+                }
+                return;
+            }
+            answer.record = machine.lh5801.record();
+            answer.steps += 1;
+            answer.states += answer.record.timer_state.wrapping_sub(before.timer_state);
+        }
+    }
+}
+
+impl Side for Original {
+    fn name(&self) -> &'static str {
+        "original"
+    }
+
+    fn call(&mut self, call: &Call) -> Answer {
+        install_silent_hook();
+        if let Some(number) = entry_stop(call) {
+            return Answer::refused(call, number);
+        }
+        let mut machine = Pc1500::new(&call.record, call.keyboard, call.pages.clone());
+        let mut answer = Answer::default();
+        Original::run(&mut machine, call.limit, &mut answer);
+        let (pages, log) = machine.memory.finish(answer.steps);
+        Answer { pages, log: Some(log), ..answer }
+    }
+}
+
+#[cfg(test)]
+mod tests {
+    use super::{panicked, Panicked, Pc1500};
+    use crate::call::Record;
+
+    #[test]
+    fn another_panic_is_a_failure_of_its_own() {
+        let fd = "Illegal fd opcode: 0A at 0002".to_string();
+        assert!(matches!(panicked(&fd), Panicked::Illegal { number: 6, byte: 0x0A }));
+        let first = "Illegal opcode: 0xff at PC: 0x0002".to_string();
+        assert!(matches!(panicked(&first), Panicked::Illegal { number: 5, byte: 0xFF }));
+        assert!(matches!(panicked(&"index out of bounds"), Panicked::Other(_)));
+    }
+
+    fn digits(value: u32) -> u8 {
+        (value / 10 * 16 + value % 10) as u8
+    }
+
+    /// Document 01, "Arithmetic": DCA and DCS on valid digits.
+    #[test]
+    fn digit_laws_hold_of_the_original() {
+        let mut machine = Pc1500::new(&Record::default(), 0, [vec![], vec![]]);
+        for i in 0..20_000 {
+            let (a, operand, carry) = (i / 200, i / 2 % 100, i % 2);
+            machine.lh5801.set_a_and_t(digits(a), carry as u8);
+            machine.original_dca(digits(operand));
+            let sum = a + operand + carry;
+            assert_eq!(machine.lh5801.a(), digits(sum % 100));
+            assert_eq!(u32::from(machine.lh5801.t() & 1), sum / 100);
+            machine.lh5801.set_a_and_t(digits(a), carry as u8);
+            machine.original_dcs(digits(operand));
+            let rest = 100 + a + carry - operand - 1;
+            assert_eq!(machine.lh5801.a(), digits(rest % 100));
+            assert_eq!(u32::from(machine.lh5801.t() & 1), rest / 100);
+        }
+    }
+}

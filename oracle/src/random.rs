@@ -1,0 +1,270 @@
+//! A small generator of pseudo-random numbers (splitmix64), and random calls made from it.
+//!
+//! Every call depends on the seed and its own index only.
+
+#![forbid(unsafe_code)]
+
+use crate::call::{Call, Record};
+use crate::opcodes::table;
+
+#[derive(Clone)]
+pub struct Random {
+    state: u64,
+}
+
+fn mix(value: u64) -> u64 {
+    let value = (value ^ value >> 30).wrapping_mul(0xBF58_476D_1CE4_E5B9);
+    let value = (value ^ value >> 27).wrapping_mul(0x94D0_49BB_1331_11EB);
+    value ^ value >> 31
+}
+
+impl Random {
+    pub fn new(seed: u64, index: u64) -> Random {
+        Random { state: mix(seed ^ mix(index.wrapping_add(0x9E37_79B9_7F4A_7C15))) }
+    }
+
+    pub fn next(&mut self) -> u64 {
+        self.state = self.state.wrapping_add(0x9E37_79B9_7F4A_7C15);
+        mix(self.state)
+    }
+
+    /// A number below `end`.
+    pub fn below(&mut self, end: u64) -> u64 {
+        self.next() % end
+    }
+
+    pub fn byte(&mut self) -> u8 {
+        self.next() as u8
+    }
+
+    pub fn word(&mut self) -> u16 {
+        self.next() as u16
+    }
+
+    pub fn chance(&mut self, percent: u64) -> bool {
+        self.below(100) < percent
+    }
+
+    pub fn pick<T: Copy>(&mut self, values: &[T]) -> T {
+        values[self.below(values.len() as u64) as usize]
+    }
+}
+
+/// A page's length: often whole, empty or short.
+pub fn length(random: &mut Random) -> usize {
+    match random.below(100) {
+        0..=24 => 65_536,
+        25..=34 => 0,
+        35..=54 => 1 + random.below(64) as usize,
+        55..=89 => 65 + random.below(4032) as usize,
+        90..=93 => 65_534 + random.below(2) as usize,
+        _ => random.below(65_537) as usize,
+    }
+}
+
+/// An address: at the edges, at the ends of the pages, near the program, among the vectors, inside
+/// page 0, or anywhere.
+fn address(random: &mut Random, lengths: [usize; 2], program: u16) -> u16 {
+    let near = |random: &mut Random, middle: usize| {
+        (middle as u16).wrapping_add(random.below(5) as u16).wrapping_sub(2)
+    };
+    match random.below(12) {
+        0 => near(random, 0),
+        1 => near(random, lengths[0]),
+        2 => near(random, lengths[1]),
+        3 | 4 => program.wrapping_add(random.below(80) as u16).wrapping_sub(8),
+        5 => 0xFF00 + random.below(256) as u16,
+        6..=8 => random.below(lengths[0].max(1) as u64) as u16,
+        9 => random.below(lengths[1].max(1) as u64) as u16,
+        _ => random.word(),
+    }
+}
+
+/// Where the program begins: often at an edge, mostly inside page 0.
+fn start(random: &mut Random, lengths: [usize; 2]) -> u16 {
+    let place = match random.below(10) {
+        0 => 0,
+        1 => 0xFFFF - random.below(40) as u16,
+        2 => (lengths[0] as u16).wrapping_sub(random.below(40) as u16),
+        3 => 0x9800 + random.below(0x800) as u16,
+        _ => random.word(),
+    };
+    let outside = usize::from(place) >= lengths[0];
+    if outside && lengths[0] > 0 && random.chance(90) {
+        random.below(lengths[0] as u64) as u16
+    } else {
+        place
+    }
+}
+
+fn accumulator(random: &mut Random) -> u8 {
+    match random.below(4) {
+        0 => random.pick(&[0x00, 0x01, 0x0F, 0x10, 0x7F, 0x80, 0x99, 0x9A, 0xFE, 0xFF]),
+        1 => (random.below(10) * 16 + random.below(10)) as u8,
+        _ => random.byte(),
+    }
+}
+
+fn flags(random: &mut Random) -> u16 {
+    let chances = [8, 50, 50, 94, 50, 4, 15, 15, 15];
+    (0..9).map(|i| u16::from(random.chance(chances[i])) << i).sum()
+}
+
+fn timer_value(random: &mut Random) -> u16 {
+    match random.below(200) {
+        0 => 512 + random.below(65_024) as u16,
+        1 => 512,
+        2..=39 => 511,
+        40..=79 => 510,
+        _ => random.below(512) as u16,
+    }
+}
+
+/// Timer states and previous states: mostly a difference around 42, sometimes a previous count
+/// above the current one, sometimes near the wrap.
+fn timer(random: &mut Random) -> (u64, u64) {
+    let current = match random.below(4) {
+        0 => random.below(100),
+        1 => 0_u64.wrapping_sub(random.below(100)),
+        _ => random.next() >> random.below(64),
+    };
+    let difference = match random.below(8) {
+        0 => 0_u64.wrapping_sub(1 + random.below(60)),
+        1 => random.next() >> random.below(64),
+        2 => 41 + random.below(2),
+        3 => 20 + random.below(25),
+        _ => random.below(42),
+    };
+    (current, current.wrapping_sub(difference))
+}
+
+pub fn record(random: &mut Random, lengths: [usize; 2]) -> Record {
+    let p = start(random, lengths);
+    let (timer_state, step_previous_state) = timer(random);
+    let mut record = Record {
+        a: accumulator(random),
+        t: if random.chance(70) { random.byte() & 0x1F } else { random.byte() },
+        x: address(random, lengths, p),
+        y: address(random, lengths, p),
+        u: address(random, lengths, p),
+        s: address(random, lengths, p),
+        p,
+        tm: timer_value(random),
+        timer_state,
+        step_previous_state,
+        ticks: if random.chance(50) { timer_state } else { random.next() >> random.below(64) },
+        ..Record::default()
+    };
+    record.set_flags(flags(random));
+    record
+}
+
+pub fn limit(random: &mut Random) -> u32 {
+    match random.below(200) {
+        0 => 0,
+        1 => 1_000_001,
+        2 => 1_000_001 + random.below(4_293_967_295) as u32,
+        3 => 2_000 + random.below(20_000) as u32,
+        4..=19 => 61 + random.below(1_000) as u32,
+        20..=69 => 1 + random.below(3) as u32,
+        _ => 1 + random.below(60) as u32,
+    }
+}
+
+/// A listed byte of the first page (0) other than FD, or after FD (1).
+fn listed(random: &mut Random, page: usize) -> u8 {
+    loop {
+        let byte = random.byte();
+        if table()[page][usize::from(byte)].is_some() && (page == 1 || byte != 0xFD) {
+            return byte;
+        }
+    }
+}
+
+/// Code of at least so many bytes: listed instructions with their operands, now and then any byte.
+pub fn program(random: &mut Random, size: usize, lengths: [usize; 2], at: u16) -> Vec<u8> {
+    let mut code = Vec::with_capacity(size + 8);
+    while code.len() < size {
+        let page = match random.below(100) {
+            0..=55 => 0,
+            56..=97 => 1,
+            other => {
+                if other == 98 {
+                    code.push(0xFD);
+                }
+                code.push(random.byte());
+                continue;
+            }
+        };
+        let byte = listed(random, page);
+        if page == 1 {
+            code.push(0xFD);
+        }
+        code.push(byte);
+        let operands = table()[page][usize::from(byte)].map_or(0, |entry| entry.code_bytes());
+        operand(random, operands, lengths, at, &mut code);
+    }
+    code
+}
+
+/// Operand bytes in the code: an address first where there are two or three.
+fn operand(random: &mut Random, count: usize, lengths: [usize; 2], at: u16, code: &mut Vec<u8>) {
+    if count >= 2 {
+        code.extend(address(random, lengths, at).to_be_bytes());
+    }
+    if count % 2 == 1 {
+        code.push(match random.below(8) {
+            0 => 0x00,
+            1 => 0xFF,
+            2..=4 => random.below(12) as u8,
+            _ => random.byte(),
+        });
+    }
+}
+
+/// A page's bytes before the program is placed: any bytes, listed bytes, digits, or one byte.
+fn page(random: &mut Random, length: usize) -> Vec<u8> {
+    let style = random.below(10);
+    if style == 9 {
+        let byte = random.pick(&[0x00, 0x38, 0xFF]);
+        return vec![byte; length];
+    }
+    let mut bytes = Vec::with_capacity(length + 8);
+    while bytes.len() < length {
+        bytes.extend(random.next().to_le_bytes());
+    }
+    bytes.truncate(length);
+    match style {
+        0..=3 => {}
+        4 => bytes.iter_mut().for_each(|byte| *byte = *byte / 26 * 16 + *byte % 10),
+        _ => bytes.iter_mut().filter(|byte| is_unlisted(**byte)).for_each(|byte| *byte = 0xFD),
+    }
+    bytes
+}
+
+fn is_unlisted(byte: u8) -> bool {
+    table()[0][usize::from(byte)].is_none()
+}
+
+/// A random call with whole pages.
+pub fn call(random: &mut Random) -> Call {
+    let lengths = [length(random), length(random)];
+    let record = record(random, lengths);
+    let mut pages = [page(random, lengths[0]), page(random, lengths[1])];
+    if !random.chance(5) {
+        let size = random.pick(&[8, 40, 120]);
+        let code = program(random, size, lengths, record.p);
+        for (i, byte) in code.into_iter().enumerate() {
+            let offset = usize::from(record.p.wrapping_add(i as u16));
+            if let Some(place) = pages[0].get_mut(offset) {
+                *place = byte;
+            }
+        }
+    }
+    for page in &mut pages {
+        if random.below(300) == 0 {
+            page.resize(65_537, 0x38);
+        }
+    }
+    Call { record, keyboard: random.byte(), limit: limit(random), pages }
+}

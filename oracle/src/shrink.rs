@@ -1,0 +1,245 @@
+//! Makes a failing call smaller: fewer steps first, then memory, then registers and flags.
+
+#![forbid(unsafe_code)]
+
+use std::fmt::Write;
+
+use crate::call::{Call, Record, Side};
+use crate::original::Original;
+
+type Fails<'a> = &'a mut dyn FnMut(&Call) -> bool;
+
+/// The smallest call found for which `fails` still holds.
+pub fn shrink(call: Call, fails: Fails) -> Call {
+    let mut best = call;
+    loop {
+        let before = best.clone();
+        shrink_steps(&mut best, fails);
+        move_down(&mut best, fails);
+        shrink_pages(&mut best, fails);
+        shrink_record(&mut best, fails);
+        if best == before {
+            return best;
+        }
+    }
+}
+
+/// Keeps the candidate where it still fails.
+fn keep(best: &mut Call, candidate: Call, fails: Fails) -> bool {
+    let better = candidate != *best && fails(&candidate);
+    if better {
+        *best = candidate;
+    }
+    better
+}
+
+/// A smaller limit, or the same steps begun later: from the record and pages that the original has
+/// after some steps.
+fn shrink_steps(best: &mut Call, fails: Fails) {
+    while best.limit > 1 {
+        let limit = best.limit;
+        let fewer = [1, limit / 2, limit - limit / 4, limit - 1];
+        let shorter = fewer.into_iter().filter(|fewer| (1..limit).contains(fewer));
+        let shorter = shorter.map(|limit| Call { limit, ..best.clone() }).collect::<Vec<_>>();
+        if shorter.into_iter().any(|candidate| keep(best, candidate, fails)) {
+            continue;
+        }
+        let later = [limit - 1, limit / 2, 1];
+        if !later.into_iter().any(|steps| begin_later(best, steps, fails)) {
+            return;
+        }
+    }
+}
+
+fn begin_later(best: &mut Call, steps: u32, fails: Fails) -> bool {
+    if steps == 0 || steps >= best.limit {
+        return false;
+    }
+    let head = Original.call(&Call { limit: steps, ..best.clone() });
+    let candidate = Call {
+        record: head.record,
+        pages: head.pages,
+        limit: best.limit - steps,
+        keyboard: best.keyboard,
+    };
+    head.number == 0 && keep(best, candidate, fails)
+}
+
+fn shrink_pages(best: &mut Call, fails: Fails) {
+    for page in 0..2 {
+        shorten(best, page, fails);
+        clear_bytes(best, page, fails);
+    }
+}
+
+fn shorten(best: &mut Call, page: usize, fails: Fails) {
+    loop {
+        let length = best.pages[page].len();
+        let lengths = [0, length / 2, length - length / 4, length.saturating_sub(1)];
+        let shorter = lengths.into_iter().filter(|shorter| *shorter < length);
+        let candidates = shorter.map(|shorter| {
+            let mut candidate = best.clone();
+            candidate.pages[page].truncate(shorter);
+            candidate
+        });
+        let candidates = candidates.collect::<Vec<_>>();
+        if !candidates.into_iter().any(|candidate| keep(best, candidate, fails)) {
+            return;
+        }
+    }
+}
+
+/// Sets runs of bytes to zero, long runs first.
+fn clear_bytes(best: &mut Call, page: usize, fails: Fails) {
+    let length = best.pages[page].len();
+    let mut run = length.next_power_of_two();
+    while run > 0 && length > 0 {
+        for begin in (0..length).step_by(run) {
+            let end = (begin + run).min(length);
+            if best.pages[page][begin..end].iter().any(|byte| *byte != 0) {
+                let mut candidate = best.clone();
+                candidate.pages[page][begin..end].fill(0);
+                keep(best, candidate, fails);
+            }
+        }
+        run /= 2;
+    }
+}
+
+/// Registers, flags and counters to zero, one after another.
+fn shrink_record(best: &mut Call, fails: Fails) {
+    let fields: [fn(&mut Record); 10] = [
+        |r| r.a = 0,
+        |r| r.x = 0,
+        |r| r.y = 0,
+        |r| r.u = 0,
+        |r| r.s = 0,
+        |r| r.p = 0,
+        |r| r.tm = 0,
+        |r| r.ticks = 0,
+        |r| r.timer_state = 0,
+        |r| r.step_previous_state = 0,
+    ];
+    for field in fields {
+        let mut candidate = best.clone();
+        field(&mut candidate.record);
+        keep(best, candidate, fails);
+    }
+    for bit in 0..8 {
+        let mut candidate = best.clone();
+        candidate.record.t &= !(1 << bit);
+        keep(best, candidate, fails);
+    }
+    for bit in 0..9 {
+        let mut candidate = best.clone();
+        candidate.record.set_flags(best.record.flags() & !(1 << bit));
+        keep(best, candidate, fails);
+    }
+    let candidate = Call { keyboard: 0, ..best.clone() };
+    keep(best, candidate, fails);
+    shrink_timer(best, fails);
+}
+
+/// Both counters together: to zero, to their difference and zero, or to the least difference that
+/// shifts.
+fn shrink_timer(best: &mut Call, fails: Fails) {
+    let (current, previous) = (best.record.timer_state, best.record.step_previous_state);
+    if current <= 42 && previous == 0 {
+        return;
+    }
+    for timer_state in [0, current.wrapping_sub(previous).min(current), 42] {
+        let mut candidate = best.clone();
+        candidate.record.timer_state = timer_state;
+        candidate.record.step_previous_state = 0;
+        if keep(best, candidate, fails) {
+            return;
+        }
+    }
+}
+
+/// A register of the record.
+type Register = fn(&mut Record) -> &mut u16;
+
+/// Moves the program, and the bytes that X, Y and U point to, down to the pages' beginning.
+fn move_down(best: &mut Call, fails: Fails) {
+    let registers: [(Register, usize, usize); 6] = [
+        (|r| &mut r.p, 0, 8),
+        (|r| &mut r.p, 1, 8),
+        (|r| &mut r.p, 16, 8),
+        (|r| &mut r.x, 8, 1),
+        (|r| &mut r.y, 9, 1),
+        (|r| &mut r.u, 10, 1),
+    ];
+    for (register, target, count) in registers {
+        let mut candidate = best.clone();
+        let from = usize::from(*register(&mut candidate.record));
+        if from <= target {
+            continue;
+        }
+        *register(&mut candidate.record) = target as u16;
+        for page in &mut candidate.pages {
+            for i in 0..count {
+                let byte = page.get((from + i) % 65_536).copied().unwrap_or(0xFF);
+                if let Some(place) = page.get_mut(target + i) {
+                    *place = byte;
+                }
+            }
+        }
+        keep(best, candidate, fails);
+    }
+}
+
+/// A call in words: record, keyboard, limit and the bytes of the pages that are not zero.
+pub fn describe(call: &Call) -> String {
+    let mut text = format!("record: {}\n", call.record);
+    let _ = writeln!(text, "keyboard {:02X}, limit {}", call.keyboard, call.limit);
+    for (page, bytes) in call.pages.iter().enumerate() {
+        let _ = write!(text, "page {page}: length {}", bytes.len());
+        let set = bytes.iter().enumerate().filter(|(_, byte)| **byte != 0);
+        for (offset, byte) in set {
+            let _ = write!(text, " {offset:04X}={byte:02X}");
+        }
+        text.push('\n');
+    }
+    text
+}
+
+#[cfg(test)]
+mod tests {
+    use super::shrink;
+    use crate::call::Call;
+    use crate::compare::Comparison;
+    use crate::model::{Model, Slip};
+    use crate::random::{self, Random};
+
+    /// The smallest input for a model with a slip: from the first random call that shows it.
+    fn smallest(slip: Slip) -> Call {
+        let side = Model { slip: Some(slip) };
+        let mut comparison = Comparison::new(Box::new(side));
+        let mut calls = (0..).map(|index| random::call(&mut Random::new(7, index)));
+        let failing = calls.find(|call| comparison.differs(call)).unwrap();
+        shrink(failing, &mut |call| comparison.differs(call))
+    }
+
+    fn bytes_set(call: &Call) -> usize {
+        call.pages.iter().flatten().filter(|byte| **byte != 0).count()
+    }
+
+    #[test]
+    fn a_wrong_zero_flag_of_dca_becomes_one_step() {
+        let call = smallest(Slip::ZeroFromCorrectedByte);
+        assert_eq!(call.limit, 1);
+        assert!(bytes_set(&call) <= 6, "{}", super::describe(&call));
+        assert!(call.pages[0].len() <= 32, "{}", super::describe(&call));
+        assert_eq!(call.record.flags(), 8);
+    }
+
+    #[test]
+    fn a_wrong_test_of_lop_becomes_one_step() {
+        let call = smallest(Slip::LoopTestsAfterDecrement);
+        assert_eq!(call.limit, 1);
+        assert!(bytes_set(&call) <= 2, "{}", super::describe(&call));
+        assert_eq!(call.record.flags(), 8);
+        assert!(call.record.u & 0xFF <= 1);
+    }
+}

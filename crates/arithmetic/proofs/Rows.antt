@@ -21,7 +21,8 @@ module _ {A : Type 0} (d : A) where
   blank (suc n) zero = refl
   blank (suc n) (suc x) = blank n x
 
-  cleared : (row : List A) (ks : List ℕ) (x : ℕ) → Rest x ks → getD row x d ≡ getD (clear row ks) x d
+  -- which changes nothing at any other number
+  pub cleared : (row : List A) (ks : List ℕ) (x : ℕ) → Rest x ks → getD row x d ≡ getD (clear row ks) x d
   cleared row [] x r = refl
   cleared row (k ∷ ks) x r = cleared row ks x (r .0) ∙ sym (getD-set-other (clear row ks) k x d d (r .1))
 

@@ -1,8 +1,8 @@
--- Shifts of A and moves of digits ("Shifts, .. DRL, DRR, AEX .. follow their functions").
-use Prim.Native.Nat.{ℕ, _+_, _*_, _/_, _%_, _^_}
+-- Shifts of A, LOP's count, and moves of digits ("Shifts, LOP, DRL, DRR, AEX .. follow their functions").
+use Prim.Native.Nat.{ℕ, _+_, _*_, _/_, _%_}
 use mathlib.Core.Bool.{Bool, true, false, not, _&&_, _||_}
-use mathlib.Core.Path.{_≡_}
 use lib.Dec.{eqb, leb, ltb}
+use Rattle.arithmetic.specs.declared.Looped.{Looped}
 use Rattle.arithmetic.specs.declared.Moved.{Moved}
 use Rattle.arithmetic.specs.declared.record.Lh5801.{Lh5801}
 use Rattle.arithmetic.specs.Record.{with-a, with-t}
@@ -41,6 +41,10 @@ rorOf m = rightOf m (carryOf m)
 
 abbrev pub shrOf : Lh5801 → Lh5801
 shrOf m = rightOf m false
+
+-- LOP on U: UL is tested before it is counted down; UL wraps, UH stays, and no flag changes
+abbrev pub lopOf : ℕ → Looped
+lopOf u = record { u = u / 256 * 256 + (u % 256 + 255) % 256; again = not (eqb (u % 256) 0) }
 
 -- AEX: A's two nibbles exchanged
 abbrev pub aexOf : ℕ → ℕ

@@ -5,7 +5,7 @@ ghost use Rattle.arithmetic.specs.Flags.{bitOf, hasFlag, setFlag, checkZ
 ghost use Rattle.arithmetic.specs.Sums.{overflowOf, addOf, withSum, adcOf, sbcOf, cpaOf, incOf, decOf, adrOf};
 ghost use Rattle.arithmetic.specs.Decimal.{adjust, decimalOf, dcaOf, dcsOf};
 ghost use Rattle.arithmetic.specs.Logic.{ldaOf, andOf, oraOf, eorOf, bitTestOf, ttaOf};
-ghost use Rattle.arithmetic.specs.Shifts.{leftOf, rightOverflowOf, rightOf, rolOf, shlOf, rorOf, shrOf, aexOf, drlOf, drrOf};
+ghost use Rattle.arithmetic.specs.Shifts.{leftOf, rightOverflowOf, rightOf, rolOf, shlOf, rorOf, shrOf, lopOf, aexOf, drlOf, drrOf};
 use crate::record::Lh5801;
 
 pub mod record;
@@ -36,6 +36,12 @@ pub struct WideSum {
 pub struct Moved {
     pub a: u8,
     pub byte: u8,
+}
+
+// U after LOP has counted UL down, and whether it branches.
+pub struct Looped {
+    pub u: u16,
+    pub again: bool,
 }
 
 pub fn get_flag(t: u8, flag: u8) -> bool
@@ -290,6 +296,18 @@ pub fn shr(cpu: Lh5801) -> Lh5801
     ensures { λ r. ⌜ r ≡ shrOf cpu ⌝ }
 {
     shifted_right(cpu, false)
+}
+
+// UL is tested before it is counted down; it wraps, and UH stays.
+pub fn lop(u: u16) -> Looped
+    ensures { λ r. ⌜ r ≡ lopOf u ⌝ }
+{
+    let left = std::num::wrapping_sub_u8((u % 256) as u8, 1);
+    let counted = u / 256 * 256 + left as u16;
+    Looped {
+        u: counted,
+        again: u % 256 != 0,
+    }
 }
 
 // The two nibbles exchanged.

@@ -1,0 +1,15 @@
+pub mod Operands
+pub mod Arms
+pub mod Table
+pub mod Listed
+pub mod Order
+pub mod Programs
+pub mod Counters
+pub mod Ways
+pub mod StepKeeps
+pub mod OpcodeRead
+pub mod StepStates
+pub mod Accesses
+pub mod StopsClean
+pub mod Tests
+pub mod StopConditions

@@ -1,0 +1,73 @@
+-- The code's way to an operand is the definition's: the word of the place's register is looked up first.
+use mathlib.Core.Path.{_≡_, refl}
+use mathlib.Core.Logic.{inl, inr}
+use mathlib.Core.List.{[], _∷_}
+use native.Mathlib.Omega.{arith}
+use types.Run.{OneOf}
+use denote.Enum.Declared.{tagOf}
+use Rattle.execution.proofs.places.Register.{the-type}
+use Prim.Native.Nat.{ℕ, _<_, _%_}
+use Rattle.arithmetic.specs.declared.record.Lh5801.{Lh5801}
+use Rattle.arithmetic.specs.Record.{with-x, with-y, with-u}
+use Rattle.pages.specs.Prog.{read, _>>=_}
+use Rattle.pages.specs.Stack.{readopOf, readopWordOf}
+use Rattle.execution.specs.declared.places.Register.{Register}
+use Rattle.execution.specs.declared.places.Register.the-variants.{X, Y, U}
+use Rattle.execution.specs.declared.places.Half.{Half}
+use Rattle.execution.specs.declared.places.Half.the-variants.{High, Low, None}
+use Rattle.execution.specs.declared.places.Place.{Place}
+use Rattle.execution.specs.declared.places.Place.the-variants.{Half as HalfAt, Pointer, Fixed, InCode}
+use Rattle.execution.specs.Places.{wordIn, withWord, halfIn, withHalf, locateOf, operandOf}
+use Rattle.execution.specs.Operands.{chosen, registerOf, registerAt, halfOf, replaced, fixedAt, locateAt, operandAt}
+
+-- a register that is neither X, tag 0, nor Y, tag 1, is U
+pub third : (x y u : ℕ) (r : Register) → OneOf (1 ∷ 2 ∷ []) (tagOf the-type r) → OneOf (0 ∷ 2 ∷ []) (tagOf the-type r) → u ≡ chosen x y u r
+third x y u X (inl e) b = absurd (omega arith)
+third x y u X (inr e) b = absurd (omega arith)
+third x y u Y a (inl e) = absurd (omega arith)
+third x y u Y a (inr e) = absurd (omega arith)
+third x y u U a b = refl
+
+pub chosen-word : (m : Lh5801) (r : Register) → chosen (m .x) (m .y) (m .u) r ≡ wordIn m r
+chosen-word m X = refl
+chosen-word m Y = refl
+chosen-word m U = refl
+
+-- all three pairs set, two of them to what they were
+pub word-set : (m : Lh5801) (r : Register) (w : ℕ)
+    → with-u (with-y (with-x m (chosen w (m .x) (m .x) r)) (chosen (m .y) w (m .y) r)) (chosen (m .u) (m .u) w r) ≡ withWord m r w
+unfolding with-x with-y with-u
+word-set m X w = refl
+word-set m Y w = refl
+word-set m U w = refl
+
+pub half-in : (m : Lh5801) (h : Half) → halfOf (wordIn m (registerOf h)) h ≡ halfIn m h
+half-in m (High r) = refl
+half-in m (Low r) = refl
+half-in m None = refl
+
+pub half-set : (m : Lh5801) (h : Half) (v : ℕ) → withWord m (registerOf h) (replaced (wordIn m (registerOf h)) h v) ≡ withHalf m h v
+unfolding with-x
+half-set m (High r) v = refl
+half-set m (Low r) v = refl
+half-set m None v = refl
+
+pub locate-at : (m : Lh5801) (place : Place) → locateAt (wordIn m (registerAt place)) (m .p) place ≡ locateOf m place
+unfolding locateAt locateOf fixedAt
+locate-at m (HalfAt h) = refl
+locate-at m (Pointer r page) = refl
+locate-at m (Fixed page) = refl
+locate-at m InCode = refl
+
+pub operand-at : (m : Lh5801) (place : Place) → operandAt (wordIn m (registerAt place)) (m .p) place ≡ operandOf m place
+unfolding operandAt operandOf fixedAt readopWordOf readopOf read _>>=_
+operand-at m (HalfAt (High r)) = refl
+operand-at m (HalfAt (Low r)) = refl
+operand-at m (HalfAt None) = refl
+operand-at m (Pointer r page) = refl
+operand-at m (Fixed page) = refl
+operand-at m InCode = refl
+
+-- a byte is its own remainder
+pub byte-of-tm : {a : ℕ} → a < 256 → a ≡ a % 256
+byte-of-tm h = omega arith

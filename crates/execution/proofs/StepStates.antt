@@ -1,0 +1,76 @@
+-- The states of a completed step.
+use mathlib.Core.Path.{_≡_, refl}
+use mathlib.Core.Bool.{Bool, true, false}
+use Prim.Native.Nat.{ℕ, _+_, _≤_}
+use native.Mathlib.Omega.{arith}
+use Rattle.arithmetic.specs.declared.record.Lh5801.{Lh5801}
+use Rattle.arithmetic.specs.Record.{with-p, with-ir1, with-ir2}
+use Rattle.pages.specs.Pages.{Pages}
+use Rattle.pages.specs.Stack.{entryOf}
+use Rattle.pages.specs.Prog.{exec}
+use Rattle.pages.proofs.Always.{Always}
+use Rattle.execution.specs.declared.instructions.Instruction.{Instruction}
+use Rattle.execution.specs.declared.instructions.Decoded.{Decoded}
+use Rattle.execution.specs.declared.instructions.Decoded.the-variants.{Listed, Unlisted}
+use Rattle.execution.specs.declared.Fetched.{Fetched}
+use Rattle.execution.specs.Instructions.{executeOf}
+use Rattle.execution.specs.States.{addsOf, addedWhenTaken, takenFrom, addedOf}
+use Rattle.execution.specs.Step.{Kind, off, frozen, entry, instruction, fewestStates, mostStates, StepEnd, did, decodedBy, fetchOf, obeyOf, instructionOf, enteredOf, poweredOf, stepOf}
+use Rattle.execution.proofs.Programs.{always-then, cond-both}
+use Rattle.execution.proofs.Ways.{Did, did-exec, moved, powered-ways, step-ways}
+use Rattle.execution.proofs.Listed.{listed-states, listed-states-fd}
+
+-- the states are no fewer and no more than the kind's
+abbrev Fits : StepEnd → Type 0
+Fits = Did (λ k n kind. (fewestStates kind ≤ n) × (n ≤ mostStates kind))
+
+-- an instruction adds what it adds where it is taken, or nothing
+added-most : (m : Lh5801) (i : Instruction) → addedOf m i ≤ addedWhenTaken i
+added-most m i = cond-both (λ n. n ≤ addedWhenTaken i) (takenFrom m (addsOf i)) _ _ (omega arith) (omega arith)
+
+most-23 : (kind : Kind) → mostStates kind ≤ 23
+most-23 off = omega arith
+most-23 frozen = omega arith
+most-23 (entry vector) = omega arith
+most-23 (instruction fd byte) = omega arith
+
+fits-entered : (m : Lh5801) (vector : ℕ) → Always Fits (enteredOf m vector)
+unfolding enteredOf
+fits-entered m vector = always-then Fits (entryOf m vector) _ (λ k. (omega arith, omega arith))
+
+-- each entry of the opcode table has 4 states at least, and 23 at most with what it adds where it is taken
+listed-by : (fd : Bool) (byte : ℕ) (i : Instruction) (n : ℕ) → decodedBy fd byte ≡ Listed i n → (4 ≤ n) × (n + addedWhenTaken i ≤ 23)
+listed-by true byte i n e = listed-states-fd byte e
+listed-by false byte i n e = listed-states byte e
+
+fits-obeyed : (m : Lh5801) (key : ℕ) (o : Fetched) (d : Decoded) → decodedBy (o .fd) (o .byte) ≡ d → Always Fits (obeyOf m key o d)
+unfolding obeyOf
+fits-obeyed m key o (Listed i n) e = always-then Fits (executeOf (with-p m (o .p)) key i) _
+    (λ k. (omega (arith, listed-by (o .fd) (o .byte) i n e), omega (arith, listed-by (o .fd) (o .byte) i n e, added-most m i)))
+fits-obeyed m key o Unlisted e = tt
+
+fits-instruction : (m : Lh5801) (key : ℕ) → Always Fits (instructionOf m key)
+unfolding instructionOf
+fits-instruction m key = always-then Fits (fetchOf (m .p)) _ (λ o. fits-obeyed m key o (decodedBy (o .fd) (o .byte)) refl)
+
+fits-powered : (m : Lh5801) (key : ℕ) → Always Fits (poweredOf m key)
+fits-powered m key =
+    powered-ways (Always Fits) m key (omega arith, omega arith) (fits-entered (with-ir1 m false) 0xFFFA)
+    (fits-entered (with-ir2 m false) 0xFFF8)
+    tt
+    (fits-instruction m key)
+
+fits-step : (m : Lh5801) (key : ℕ) → Always Fits (stepOf m key)
+fits-step m key = step-ways (Always Fits) m key (omega arith, omega arith) (fits-powered (moved m) key) (fits-powered m key)
+
+-- a completed step has the states of its kind: 8 with BF clear, 0 frozen and for an entry, 4 to 23 for an instruction
+pub step-kind-states : (m : Lh5801) (key : ℕ) (pages : Pages) (k : Lh5801) (s : ℕ) (kind : Kind)
+    → exec (stepOf m key) pages .answer ≡ did k s kind
+    → (fewestStates kind ≤ s) × (s ≤ mostStates kind)
+step-kind-states m key pages k s kind e = did-exec _ (stepOf m key) (fits-step m key) pages k s kind e
+
+-- a completed step has 23 states at most
+pub step-states : (m : Lh5801) (key : ℕ) (pages : Pages) (k : Lh5801) (s : ℕ) (kind : Kind)
+    → exec (stepOf m key) pages .answer ≡ did k s kind
+    → s ≤ 23
+step-states m key pages k s kind e = omega (arith, step-kind-states m key pages k s kind e, most-23 kind)

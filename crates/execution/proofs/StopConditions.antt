@@ -1,0 +1,173 @@
+-- A step stops with 7, 5 or 6 under document 01's condition for it and no other.
+use mathlib.Core.Path.{_≡_, refl, sym, ap, subst, _∙_}
+use mathlib.Core.Bool.{Bool, true, false}
+use mathlib.Core.Logic.{_↔_}
+use Prim.Native.Nat.{ℕ}
+use native.Mathlib.Omega.{arith}
+use lib.Dec.{eqb}
+use borrow.Author.Tests.{eqb-true, eqb-false, eq-eqb, ne-eqb}
+use Rattle.arithmetic.specs.declared.record.Lh5801.{Lh5801}
+use Rattle.pages.specs.Pages.{Pages, at}
+use Rattle.pages.specs.Prog.{exec}
+use Rattle.pages.specs.Stack.{up16}
+use Rattle.pages.proofs.Always.{always-exec}
+use Rattle.execution.specs.declared.instructions.Instruction.{Instruction}
+use Rattle.execution.specs.declared.instructions.Decoded.{Decoded}
+use Rattle.execution.specs.declared.instructions.Decoded.the-variants.{Listed, Unlisted}
+use Rattle.execution.specs.declared.Fetched.{Fetched}
+use Rattle.execution.specs.declared.Stop.{Stop}
+use Rattle.execution.specs.declared.Stop.the-variants.{Unlisted as UnlistedByte, UnlistedFd, Halted}
+use Rattle.execution.specs.Opcodes.{decoded}
+use Rattle.execution.specs.OpcodesFd.{decodedFd}
+use Rattle.execution.specs.Step.{StepEnd, did, stopped, fetched, decodedBy, unlistedBy, obeyOf, reachedOf, stepOf}
+use Rattle.execution.specs.Conditions.{accepted, HaltedStop, Due, firstByte, secondByte, FirstUnlisted, SecondUnlisted, opcodeAt, Completes, NoStop}
+use Rattle.execution.proofs.OpcodeRead.{instruction-answer}
+use Rattle.execution.proofs.StopsClean.{IsDid, did-listed}
+use Rattle.execution.proofs.Tests.{cond-true, cond-false, reached-p, off-step, frozen-step, unheld, accepted-step}
+
+-- what a decoded opcode comes to
+obeyed : Lh5801 → ℕ → Pages → Fetched → StepEnd
+obeyed m key pages o = exec (obeyOf m key o (decodedBy (o .fd) (o .byte))) pages .answer
+
+obeyed-unlisted : (m : Lh5801) (key : ℕ) (pages : Pages) (o : Fetched) → decodedBy (o .fd) (o .byte) ≡ Unlisted
+    → obeyed m key pages o ≡ stopped (unlistedBy (o .fd) (o .byte))
+unfolding obeyed obeyOf exec
+obeyed-unlisted m key pages o e = ap (λ d. exec (obeyOf m key o d) pages .answer) e
+
+obeyed-listed : (m : Lh5801) (key : ℕ) (pages : Pages) (o : Fetched) (i : Instruction) (n : ℕ) → decodedBy (o .fd) (o .byte) ≡ Listed i n
+    → IsDid (obeyed m key pages o)
+unfolding obeyed
+obeyed-listed m key pages o i n e =
+    subst (λ d. IsDid (exec (obeyOf m key o d) pages .answer)) (sym e)
+    (always-exec IsDid (obeyOf m key o (Listed i n)) (did-listed m key o i n) pages)
+
+-- the opcode, by whether the first byte is FD
+opcode-first : (pages : Pages) (p b : ℕ) → at pages p ≡ b → ¬ (b ≡ 0xFD) → opcodeAt pages p ≡ fetched false b (up16 p)
+opcode-first pages p b e h =
+    cond-false (eqb (at pages p) 0xFD) _ _ (ne-eqb (at pages p) 0xFD (λ q. h (sym e ∙ q))) ∙ ap (λ n. fetched false n (up16 p)) e
+
+opcode-second : (pages : Pages) (p b : ℕ) → at pages p ≡ 0xFD → at pages (up16 p) ≡ b → opcodeAt pages p ≡ fetched true b (up16 (up16 p))
+opcode-second pages p b h e =
+    cond-true (eqb (at pages p) 0xFD) _ _ (eq-eqb (at pages p) 0xFD h) ∙ ap (λ n. fetched true n (up16 (up16 p))) e
+
+module _ (m : Lh5801) (key : ℕ) (pages : Pages) where
+  answer : StepEnd
+  answer = exec (stepOf m key) pages .answer
+
+  -- each condition tells the answer
+  halted-answer : HaltedStop m → answer ≡ stopped Halted
+  unfolding answer exec
+  halted-answer h =
+      ap (λ p. exec p pages .answer) (unheld m key (h .on) (h .free) (h .none) ∙ cond-true (m .«is_halted») _ _ (h .halted))
+
+  due-answer : Due m → (o : Fetched) → opcodeAt pages (m .p) ≡ o → answer ≡ obeyed (reachedOf m) key pages o
+  unfolding answer obeyed
+  due-answer d o e =
+      ap (λ p. exec p pages .answer) (unheld m key (d .on) (d .free) (d .none) ∙ cond-false (m .«is_halted») _ _ (d .running))
+      ∙ instruction-answer (reachedOf m) key pages
+      ∙ ap (obeyed (reachedOf m) key pages) (ap (opcodeAt pages) (reached-p m) ∙ e)
+
+  first-answer : (b : ℕ) → FirstUnlisted m pages b → answer ≡ stopped (UnlistedByte b)
+  first-answer b f =
+      let o : Fetched = fetched false b (up16 (m .p)) in
+      due-answer (f .due) o (opcode-first pages (m .p) b (f .first) (f .other)) ∙ obeyed-unlisted (reachedOf m) key pages o (f .unlisted)
+
+  second-answer : (b : ℕ) → SecondUnlisted m pages b → answer ≡ stopped (UnlistedFd b)
+  second-answer b f =
+      let o : Fetched = fetched true b (up16 (up16 (m .p))) in
+      due-answer (f .due) o (opcode-second pages (m .p) b (f .first) (f .second)) ∙ obeyed-unlisted (reachedOf m) key pages o (f .unlisted)
+
+  -- one of the conditions holds, or the step is completed
+  data Case : Type 0 where
+    isHalted : HaltedStop m → Case
+    isFirst : (b : ℕ) → FirstUnlisted m pages b → Case
+    isSecond : (b : ℕ) → SecondUnlisted m pages b → Case
+    isCompleted : IsDid answer → Case
+
+  case-first : Due m → (b : ℕ) → firstByte m pages ≡ b → ¬ (b ≡ 0xFD) → (d : Decoded) → decoded b ≡ d → Case
+  case-first due b f h (Listed i n) e =
+      let o : Fetched = fetched false b (up16 (m .p)) in
+      isCompleted (subst IsDid (sym (due-answer due o (opcode-first pages (m .p) b f h))) (obeyed-listed (reachedOf m) key pages o i n e))
+  case-first due b f h Unlisted e = isFirst b (record { due = due; first = f; other = h; unlisted = e })
+
+  case-second : Due m → firstByte m pages ≡ 0xFD → (b : ℕ) → secondByte m pages ≡ b → (d : Decoded) → decodedFd b ≡ d → Case
+  case-second due h b f (Listed i n) e =
+      let o : Fetched = fetched true b (up16 (up16 (m .p))) in
+      isCompleted (subst IsDid (sym (due-answer due o (opcode-second pages (m .p) b h f))) (obeyed-listed (reachedOf m) key pages o i n e))
+  case-second due h b f Unlisted e = isSecond b (record { due = due; first = h; second = f; unlisted = e })
+
+  case-due : Due m → Case
+  case-due due = go (eqb (firstByte m pages) 0xFD) refl
+    where
+      go : (t : Bool) → eqb (firstByte m pages) 0xFD ≡ t → Case
+      go true e = case-second due (eqb-true (firstByte m pages) 0xFD e) (secondByte m pages) refl (decodedFd (secondByte m pages)) refl
+      go false e = case-first due (firstByte m pages) refl (eqb-false (firstByte m pages) 0xFD e) (decoded (firstByte m pages)) refl
+
+  case-of : Case
+  unfolding answer
+  case-of = go (m .bf) refl (m .ir0) refl (accepted m) refl (m .«is_halted») refl
+    where
+      go : (b : Bool) → m .bf ≡ b → (z : Bool) → m .ir0 ≡ z → (n : Bool) → accepted m ≡ n → (h : Bool) → m .«is_halted» ≡ h → Case
+      go false b z e n f h g = isCompleted (always-exec IsDid (stepOf m key) (off-step m key b) pages)
+      go true b true e n f h g = isCompleted (always-exec IsDid (stepOf m key) (frozen-step m key b e) pages)
+      go true b false e true f h g = isCompleted (always-exec IsDid (stepOf m key) (accepted-step m key b e f) pages)
+      go true b false e false f true g = isHalted (record { on = b; halted = g; free = e; none = f })
+      go true b false e false f false g = case-due (record { on = b; free = e; none = f; running = g })
+
+  -- 7
+  pub stops-7 : (exec (stepOf m key) pages .answer ≡ stopped Halted) ↔ HaltedStop m
+  unfolding answer
+  stops-7 = (λ e. go case-of e, halted-answer)
+    where
+      go : Case → answer ≡ stopped Halted → HaltedStop m
+      go (isHalted h) e = h
+      go (isFirst b f) e = absurd (let z : _≡_ {A = ℕ} 0 1 = cc (first-answer b f) in omega arith)
+      go (isSecond b f) e = absurd (let z : _≡_ {A = ℕ} 0 1 = cc (second-answer b f) in omega arith)
+      go (isCompleted d) e = absurd (subst IsDid e d)
+
+  -- 5, with the byte
+  pub stops-5 : (b : ℕ) → (exec (stepOf m key) pages .answer ≡ stopped (UnlistedByte b)) ↔ FirstUnlisted m pages b
+  unfolding answer
+  stops-5 b = (λ e. go case-of e, first-answer b)
+    where
+      go : Case → answer ≡ stopped (UnlistedByte b) → FirstUnlisted m pages b
+      go (isHalted h) e = absurd (let z : _≡_ {A = ℕ} 0 1 = cc (halted-answer h) in omega arith)
+      go (isFirst c f) e = let z : c ≡ b = cc (first-answer c f) in rw z at f
+      go (isSecond c f) e = absurd (let z : _≡_ {A = ℕ} 0 1 = cc (second-answer c f) in omega arith)
+      go (isCompleted d) e = absurd (subst IsDid e d)
+
+  -- 6, with the byte
+  pub stops-6 : (b : ℕ) → (exec (stepOf m key) pages .answer ≡ stopped (UnlistedFd b)) ↔ SecondUnlisted m pages b
+  unfolding answer
+  stops-6 b = (λ e. go case-of e, second-answer b)
+    where
+      go : Case → answer ≡ stopped (UnlistedFd b) → SecondUnlisted m pages b
+      go (isHalted h) e = absurd (let z : _≡_ {A = ℕ} 0 1 = cc (halted-answer h) in omega arith)
+      go (isFirst c f) e = absurd (let z : _≡_ {A = ℕ} 0 1 = cc (first-answer c f) in omega arith)
+      go (isSecond c f) e = let z : c ≡ b = cc (second-answer c f) in rw z at f
+      go (isCompleted d) e = absurd (subst IsDid e d)
+
+  never-both : (s : Stop) → Completes answer → answer ≡ stopped s → ⊥
+  never-both s c e = subst IsDid (sym (c .is) ∙ e) tt
+
+  completes-did : (e : StepEnd) → IsDid e → Completes e
+  completes-did (did k n kind) h = record { after = k; states = n; kind = kind; is = refl }
+  completes-did (stopped s) h = absurd h
+
+  -- 0: the step is completed exactly where no condition of a stop holds
+  pub completes : Completes (exec (stepOf m key) pages .answer) ↔ NoStop m pages
+  unfolding answer
+  completes = (
+    λ c. record {
+      seven = λ h. never-both Halted c (halted-answer h);
+      five = λ b f. never-both (UnlistedByte b) c (first-answer b f);
+      six = λ b f. never-both (UnlistedFd b) c (second-answer b f);
+    },
+    go case-of,
+  )
+    where
+      go : Case → NoStop m pages → Completes answer
+      go (isHalted h) n = absurd (n .seven h)
+      go (isFirst b f) n = absurd (n .five b f)
+      go (isSecond b f) n = absurd (n .six b f)
+      go (isCompleted d) n = completes-did answer d

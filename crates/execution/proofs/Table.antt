@@ -1,0 +1,91 @@
+-- The chain of a page's rows is its table, for any rows of at most 16 entries.
+use Prim.Native.Nat.{ℕ, zero, suc, _+_, _-_, _*_, _/_, _%_, _<_, _≤_}
+use native.Mathlib.Omega.{arith}
+use mathlib.Core.Bool.{Bool, true}
+use mathlib.Core.List.{List, [], _∷_}
+use mathlib.Core.Path.{_≡_, refl, sym, ap, _∙_}
+use lib.Dec.{T, leb, leb→le}
+use lib.ListN.{getD, length, List·getD-eq-default}
+use Rattle.arithmetic.proofs.Rows.{default}
+use Rattle.arithmetic.proofs.Compute.{both, both-left, both-right}
+use Rattle.execution.specs.declared.instructions.Instruction.{Instruction}
+use Rattle.execution.specs.declared.instructions.Decoded.{Decoded}
+use Rattle.execution.specs.declared.instructions.Decoded.the-variants.{Listed, Unlisted}
+use Rattle.execution.specs.Chain.{chained, orElse, column}
+use Rattle.execution.specs.OpcodesFd.{none}
+
+-- no row has more than 16 entries
+abbrev pub short : List (List Decoded) → Bool
+short [] = true
+short (row ∷ rest) = both (leb (length row) 16) (short rest)
+
+nothing-else : (d : Decoded) → orElse d Unlisted ≡ d
+nothing-else (Listed i n) = refl
+nothing-else Unlisted = refl
+
+module _ (row : List Decoded) (rest : List (List Decoded)) (s : T (short (row ∷ rest))) where
+  -- past its columns a row lists nothing
+  past : (k : ℕ) (e : Decoded) → 16 ≤ k → orElse (getD row k Unlisted) e ≡ e
+  past k e h =
+      let n : length row ≤ 16 = leb→le (length row) 16 (both-left (leb (length row) 16) (short rest) s) in
+      ap (λ (d : Decoded). orElse d e) (List·getD-eq-default row Unlisted (omega arith))
+
+  later : T (short rest)
+  later = both-right (leb (length row) 16) (short rest) s
+
+-- a byte before the first row is in none
+before : (rest : List (List Decoded)) (i byte : ℕ) → T (short rest) → i + length rest ≤ 16 → byte < 16 * i → chained rest i byte ≡ Unlisted
+unfolding chained
+before [] i byte s f h = refl
+before (row ∷ rest) i byte s f h =
+    past row rest s (column i byte) (chained rest (suc i) byte) (omega arith)
+    ∙ before rest (suc i) byte (later row rest s) (omega arith) (omega arith)
+
+-- a byte of row i + j, counted from row i
+found : (rest : List (List Decoded)) (i j k : ℕ) → T (short rest) → i + length rest ≤ 16 → i + j < 16 → k < 16
+    → chained rest i (16 * (i + j) + k) ≡ getD (getD rest j []) k Unlisted
+unfolding chained
+found [] i j k s f g h = refl
+found (row ∷ rest) i zero k s f g h =
+    let e : column i (16 * (i + 0) + k) ≡ k = omega arith in
+    ap (λ (d : Decoded). orElse (getD row (column i (16 * (i + 0) + k)) Unlisted) d) (before rest (suc i) (16 * (i + 0) + k) (later row rest s) (omega arith) (omega arith))
+    ∙ nothing-else (getD row (column i (16 * (i + 0) + k)) Unlisted)
+    ∙ ap (λ (c : ℕ). getD row c Unlisted) e
+found (row ∷ rest) i (suc j) k s f g h =
+    let e : 16 * (i + suc j) + k ≡ 16 * (suc i + j) + k = omega arith in
+    past row rest s (column i (16 * (i + suc j) + k)) (chained rest (suc i) (16 * (i + suc j) + k)) (omega arith)
+    ∙ ap (λ (b : ℕ). chained rest (suc i) b) e
+    ∙ found rest (suc i) j k (later row rest s) (omega arith) (omega arith) h
+
+pub table : (rows : List (List Decoded)) → T (short rows) → length rows ≤ 16 → (byte : ℕ) → byte < 256
+    → chained rows 0 byte ≡ getD (getD rows (byte / 16) []) (byte % 16) Unlisted
+table rows s f byte h =
+    let e : byte ≡ 16 * (0 + byte / 16) + byte % 16 = omega arith in
+    ap (λ (b : ℕ). chained rows 0 b) e ∙ found rows 0 (byte / 16) (byte % 16) s (omega arith) (omega arith) (omega arith)
+
+-- a function of the chain, where its row lists the byte
+pub listed : (row : List Decoded) (rest : List (List Decoded)) (i byte col : ℕ) {n : ℕ} {what : Instruction} {d : Decoded}
+    → d ≡ getD row col Unlisted → col ≡ column i byte → d ≡ Listed what n → Listed what n ≡ chained (row ∷ rest) i byte
+unfolding chained
+listed row rest i byte col e c l =
+    ap (λ (x : Decoded). orElse x (chained rest (suc i) byte)) (sym l ∙ e ∙ ap (λ (k : ℕ). getD row k Unlisted) c)
+
+-- and where it does not
+pub next : (row : List Decoded) (rest : List (List Decoded)) (i byte col : ℕ) {d e : Decoded}
+    → d ≡ getD row col Unlisted → col ≡ column i byte → d ≡ Unlisted → e ≡ chained rest (suc i) byte → e ≡ chained (row ∷ rest) i byte
+unfolding chained
+next row rest i byte col f c u e =
+    e ∙ ap (λ (x : Decoded). orElse x (chained rest (suc i) byte)) (sym u ∙ f ∙ ap (λ (k : ℕ). getD row k Unlisted) c)
+
+-- after the last row
+pub nothing : (i byte : ℕ) → Unlisted ≡ chained [] i byte
+unfolding chained
+nothing i byte = refl
+
+-- a row that lists nothing may be left out: rows 7 and F after FD
+blank : (k : ℕ) → getD none k Unlisted ≡ Unlisted
+blank k = sym (default Unlisted none [] 16 k refl tt)
+
+pub skip : (rest : List (List Decoded)) (i byte : ℕ) → chained rest (suc i) byte ≡ chained (none ∷ rest) i byte
+unfolding chained
+skip rest i byte = sym (ap (λ (d : Decoded). orElse d (chained rest (suc i) byte)) (blank (column i byte)))

@@ -1,0 +1,25 @@
+use mathlib.Core.List.{[], _∷_}
+use mathlib.Core.Path.{refl, _∙_}
+use mathlib.Core.Bool.{true}
+use Rattle.execution.specs.declared.places.Register.the-variants.{X}
+use Rattle.execution.specs.declared.instructions.Decoded.the-variants.{Unlisted}
+use Rattle.execution.specs.Opcodes.{branches, row8}
+use Rattle.execution.proofs.Arms.{other}
+use borrow.Author.Needs.{needs}
+use Rattle.execution.proofs.opcodes.row_8.Statement.{statement}
+use Rattle.execution.proofs.opcodes.row_8.Tie as tie
+
+row-branches-requires : tie.Need-row-branches-requires
+row-branches-requires c κs = search needs
+
+returns : tie.Need-returns
+returns c = rw (c .match .keys1)
+
+returns-2 : tie.Need-returns-2
+returns-2 c = rw (c .match .keys2)
+
+returns-3 : tie.Need-returns-3
+returns-3 c = c .row-branches .ensures ∙ other Unlisted row8 (branches true X Unlisted Unlisted) (10 ∷ 8 ∷ []) (c .before .before .args .col) refl (c .before .match .rest)
+
+pub row-8-spec : {M : Type 1} → statement M
+row-8-spec = tie.close (tie.spec row-branches-requires returns returns-2 returns-3)

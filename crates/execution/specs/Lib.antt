@@ -1,0 +1,12 @@
+pub mod Places
+pub mod Operands
+pub mod Instructions
+pub mod Opcodes
+pub mod OpcodesFd
+pub mod Chain
+pub mod Listed
+pub mod States
+pub mod Stops
+pub mod Step
+pub mod Counters
+pub mod Conditions

@@ -1,0 +1,117 @@
+-- One step (document 01, "One step"), in its order.
+use Prim.Native.Nat.{ℕ, _+_}
+use mathlib.Core.Bool.{Bool, true, false, _&&_, cond}
+use lib.Dec.{eqb}
+use Rattle.arithmetic.specs.declared.record.Lh5801.{Lh5801}
+use Rattle.arithmetic.specs.Record.{with-p, with-ir1, with-ir2, with-is-timer-reached}
+use Rattle.arithmetic.specs.Flags.{IE, hasFlag}
+use Rattle.pages.specs.Prog.{Prog, done, _>>=_}
+use Rattle.pages.specs.Stack.{readopOf, entryOf}
+use Rattle.pages.specs.Timer.{addStateOf, timerPartOf}
+use Rattle.execution.specs.declared.instructions.Instruction.{Instruction}
+use Rattle.execution.specs.declared.instructions.Decoded.{Decoded}
+use Rattle.execution.specs.declared.instructions.Decoded.the-variants.{Listed, Unlisted}
+use Rattle.execution.specs.declared.Fetched.{Fetched}
+use Rattle.execution.specs.declared.Stop.{Stop}
+use Rattle.execution.specs.declared.Stop.the-variants.{Unlisted as UnlistedByte, UnlistedFd, Halted}
+use Rattle.execution.specs.declared.Outcome.{Outcome}
+use Rattle.execution.specs.declared.Outcome.the-variants.{Completed, Stopped}
+use Rattle.execution.specs.Instructions.{executeOf}
+use Rattle.execution.specs.Opcodes.{decoded}
+use Rattle.execution.specs.OpcodesFd.{decodedFd}
+use Rattle.execution.specs.States.{addedOf}
+
+-- what a completed step was: BF was off, IR0 held it, an interrupt was entered at a vector, or an instruction was executed, after FD or not
+pub data Kind : Type 0 where
+  off : Kind
+  frozen : Kind
+  entry : ℕ → Kind
+  instruction : Bool → ℕ → Kind
+
+-- the least and the greatest number of states of a completed step
+abbrev pub fewestStates : Kind → ℕ
+fewestStates off = 8
+fewestStates frozen = 0
+fewestStates (entry vector) = 0
+fewestStates (instruction fd byte) = 4
+
+abbrev pub mostStates : Kind → ℕ
+mostStates off = 8
+mostStates frozen = 0
+mostStates (entry vector) = 0
+mostStates (instruction fd byte) = 23
+
+-- how a step ends. It is document 01's "completed step", with the record after it, its states and what it was; or it stops, and then the
+-- record and the pages before it stand
+pub data StepEnd : Type 0 where
+  did : Lh5801 → ℕ → Kind → StepEnd
+  stopped : Stop → StepEnd
+
+-- what `step_cpu` answers of it
+abbrev pub outcomeOf : StepEnd → Outcome
+outcomeOf (did m states kind) = Completed m
+outcomeOf (stopped s) = Stopped s
+
+-- the opcode: the first byte, or the byte after FD, and P after it
+abbrev pub fetched : Bool → ℕ → ℕ → Fetched
+fetched fd byte p = record { fd = fd; byte = byte; p = p }
+
+unfoldable pub fetchOf : ℕ → Prog Fetched
+fetchOf p = do
+  first ← readopOf p
+  cond (eqb (first .value) 0xFD)
+      (do
+        second ← readopOf (first .p)
+        done (fetched true (second .value) (second .p)))
+      (done (fetched false (first .value) (first .p)))
+
+abbrev pub decodedBy : Bool → ℕ → Decoded
+decodedBy true byte = decodedFd byte
+decodedBy false byte = decoded byte
+
+abbrev pub unlistedBy : Bool → ℕ → Stop
+unlistedBy true byte = UnlistedFd byte
+unlistedBy false byte = UnlistedByte byte
+
+-- what a decoded byte does: its states are those that the table prints and those that it adds where it is taken
+unfoldable pub obeyOf : Lh5801 → ℕ → Fetched → Decoded → Prog StepEnd
+obeyOf m key o (Listed i n) = do
+  k ← executeOf (with-p m (o .p)) key i
+  done (did (timerPartOf (addStateOf k n)) (n + addedOf m i) (instruction (o .fd) (o .byte)))
+obeyOf m key o Unlisted = done (stopped (unlistedBy (o .fd) (o .byte)))
+
+unfoldable pub instructionOf : Lh5801 → ℕ → Prog StepEnd
+instructionOf m key = do
+  o ← fetchOf (m .p)
+  obeyOf m key o (decodedBy (o .fd) (o .byte))
+
+-- an interrupt that is entered: no states are added
+unfoldable pub enteredOf : Lh5801 → ℕ → Prog StepEnd
+enteredOf m vector = do
+  k ← entryOf m vector
+  done (did (timerPartOf k) 0 (entry vector))
+
+-- "Timer reached moves to IR1"
+unfoldable pub reachedOf : Lh5801 → Lh5801
+reachedOf m = cond (m .«is_timer_reached») (with-is-timer-reached (with-ir1 m true) false) m
+
+-- with BF set: IR0; else IR1 with IE; else IR2 with IE; else halted, stop 7; else one instruction
+unfoldable pub poweredOf : Lh5801 → ℕ → Prog StepEnd
+poweredOf m key =
+    cond (m .ir0) (done (did (timerPartOf m) 0 frozen))
+    (cond (m .ir1 && hasFlag (m .t) IE) (enteredOf (with-ir1 m false) 0xFFFA)
+    (cond (m .ir2 && hasFlag (m .t) IE) (enteredOf (with-ir2 m false) 0xFFF8)
+    (cond (m .«is_halted») (done (stopped Halted))
+    (instructionOf m key))))
+
+-- "BF clear: 8 states, nothing else, no timer part"
+unfoldable pub stepOf : Lh5801 → ℕ → Prog StepEnd
+stepOf m key = cond (m .bf) (poweredOf (reachedOf m) key) (done (did (addStateOf m 8) 8 off))
+
+-- the slow path of the code: nothing is executed
+unfoldable pub heldOf : Lh5801 → Bool → Prog StepEnd
+heldOf m enabled =
+    cond (m .ir0) (done (did (timerPartOf m) 0 frozen))
+    (cond (m .ir1 && enabled) (enteredOf (with-ir1 m false) 0xFFFA)
+    (cond (m .ir2 && enabled) (enteredOf (with-ir2 m false) 0xFFF8)
+    (done (stopped Halted))))

@@ -1,0 +1,89 @@
+-- Access programs one after the other, and what one leaves of the pages.
+use mathlib.Core.Path.{_≡_, refl, sym, ap, _∙_}
+use mathlib.Core.Bool.{Bool, true, false, cond, _&&_}
+use mathlib.Core.List.{List, [], _∷_, _++_}
+use Prim.Native.Nat.{ℕ}
+use lib.Dec.{eqb}
+use Rattle.pages.specs.Pages.{Pages, at, stored, store, SameLength}
+use Rattle.pages.specs.Prog.{Prog, done, get, put, _>>=_, readOf, writeOf, after, exec}
+use Rattle.pages.specs.Written.{Write, writes, latest, Written}
+use Rattle.pages.proofs.Pages.{long-refl, long-trans, store-long, stored-long, at-store}
+
+-- a program after another: the second goes on from the first's answer and pages, and its accesses come after
+pub exec-bind : {A B : Type 0} (p : Prog A) (f : A → Prog B) (m : Pages)
+    → exec (p >>= f) m
+    ≡ record {
+      answer = exec (f (exec p m .answer)) (exec p m .pages) .answer;
+      pages = exec (f (exec p m .answer)) (exec p m .pages) .pages;
+      accesses = exec p m .accesses ++ exec (f (exec p m .answer)) (exec p m .pages) .accesses;
+    }
+unfolding _>>=_ exec after
+exec-bind (done a) f m = refl
+exec-bind (get a k) f m = ap (after (readOf a (at m a))) (exec-bind (k (at m a)) f m)
+exec-bind (put a v p) f m = ap (after (writeOf a v)) (exec-bind p f (store m a v))
+
+pub bind-answer : {A B : Type 0} (p : Prog A) (f : A → Prog B) (m : Pages)
+    → exec (p >>= f) m .answer ≡ exec (f (exec p m .answer)) (exec p m .pages) .answer
+bind-answer p f m = ap (λ x. x .answer) (exec-bind p f m)
+
+pub bind-pages : {A B : Type 0} (p : Prog A) (f : A → Prog B) (m : Pages)
+    → exec (p >>= f) m .pages ≡ exec (f (exec p m .answer)) (exec p m .pages) .pages
+bind-pages p f m = ap (λ x. x .pages) (exec-bind p f m)
+
+pub bind-accesses : {A B : Type 0} (p : Prog A) (f : A → Prog B) (m : Pages)
+    → exec (p >>= f) m .accesses ≡ exec p m .accesses ++ exec (f (exec p m .answer)) (exec p m .pages) .accesses
+bind-accesses p f m = ap (λ x. x .accesses) (exec-bind p f m)
+
+-- a program keeps the lengths
+pub exec-long : {A : Type 0} (p : Prog A) (m : Pages) → SameLength m (exec p m .pages)
+unfolding exec after
+exec-long (done a) m = long-refl m
+exec-long (get a k) m = exec-long (k (at m a)) m
+exec-long (put a v p) m = long-trans (store-long m a v) (exec-long p (store m a v))
+
+cond-same : (t : Bool) (x : ℕ) → x ≡ cond t x x
+cond-same true x = refl
+cond-same false x = refl
+
+exec-bytes : {A : Type 0} (p : Prog A) (m : Pages) (a : ℕ)
+    → at (exec p m .pages) a ≡ cond (stored m a) (latest a (writes (exec p m .accesses)) (at m a)) (at m a)
+unfolding exec after writes latest
+exec-bytes (done x) m a = cond-same (stored m a) (at m a)
+exec-bytes (get b k) m a = exec-bytes (k (at m b)) m a
+exec-bytes (put b v p) m a =
+    exec-bytes p (store m b v) a ∙ rw (stored-long (store-long m b v) a, at-store m b v a) (go (stored m a) (eqb a b))
+  where
+    ws : List Write
+    ws = writes (exec p (store m b v) .accesses)
+
+    go : (s e : Bool)
+        → cond s (latest a ws (cond (s && e) v (at m a))) (cond (s && e) v (at m a))
+        ≡ cond s (latest a ws (cond e v (at m a))) (at m a)
+    go true e = refl
+    go false e = refl
+
+-- what any program leaves, byte by byte
+pub exec-written : {A : Type 0} (p : Prog A) (m : Pages) → Written m (writes (exec p m .accesses)) (exec p m .pages)
+exec-written p m = record { long = exec-long p m; bytes = exec-bytes p m }
+
+latest-append : (a : ℕ) (xs ys : List Write) (d : ℕ) → latest a (xs ++ ys) d ≡ latest a ys (latest a xs d)
+unfolding latest
+latest-append a [] ys d = refl
+latest-append a (x ∷ xs) ys d = latest-append a xs ys (cond (eqb a (x .place)) (x .byte) d)
+
+-- no write, and writes after writes
+pub written-none : (m : Pages) → Written m [] m
+unfolding latest
+written-none m = record { long = long-refl m; bytes = λ a. cond-same (stored m a) (at m a) }
+
+pub written-then : {l m n : Pages} {xs ys : List Write} → Written l xs m → Written m ys n → Written l (xs ++ ys) n
+written-then {l} {m} {n} {xs} {ys} p q = record { long = long-trans (p .long) (q .long); bytes = bytes }
+  where
+    go : (a : ℕ) (s : Bool)
+        → cond s (latest a ys (cond s (latest a xs (at l a)) (at l a))) (cond s (latest a xs (at l a)) (at l a))
+        ≡ cond s (latest a (xs ++ ys) (at l a)) (at l a)
+    go a true = sym (latest-append a xs ys (at l a))
+    go a false = refl
+
+    bytes : (a : ℕ) → at n a ≡ cond (stored l a) (latest a (xs ++ ys) (at l a)) (at l a)
+    bytes a = q .bytes a ∙ rw (stored-long (p .long) a, p .bytes a) (go a (stored l a))

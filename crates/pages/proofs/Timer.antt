@@ -1,0 +1,75 @@
+-- The laws of the timer.
+use mathlib.Core.Path.{_≡_}
+use mathlib.Core.Bool.{Bool, true, false, cond}
+use Prim.Native.Nat.{ℕ, _+_, _<_, _≤_, _/_, _%_, _^_}
+use native.Mathlib.Omega.{arith}
+use lib.Bits.{bitXor}
+use lib.Dec.{T, eqb, eqb→eq, leb}
+use borrow.Author.Tests.{le-leb, lt-leb}
+use Rattle.arithmetic.specs.declared.record.Lh5801.{Lh5801}
+use Rattle.arithmetic.specs.Record.{with-tm, with-is-timer-reached, with-step-previous-state}
+use Rattle.arithmetic.proofs.Compute.{both, both-left, both-right, every, at as test-at}
+use Rattle.pages.specs.Timer.{shiftOf, timerIncOf, passedOf, timerPartOf}
+
+halves : ℕ → Bool
+halves tm = eqb (shiftOf tm % 256) (tm / 2)
+
+xors : ℕ → Bool
+xors tm = eqb (shiftOf tm / 256) (bitXor (tm % 2) (tm / 16 % 2))
+
+all-shift : T (every (λ tm. both (halves tm) (xors tm)) 0 512)
+unfolding halves xors shiftOf
+all-shift = tt
+
+-- the shift in document 01's words: TM halved, and bit 8 is bit 0 xor bit 4. By computation over the 512 values
+pub shift-bits : (tm : ℕ) → tm < 512 → (shiftOf tm % 256 ≡ tm / 2) × (shiftOf tm / 256 ≡ bitXor (tm % 2) (tm / 16 % 2))
+unfolding halves xors
+shift-bits tm h =
+    let t : T (both (halves tm) (xors tm)) = test-at (λ tm. both (halves tm) (xors tm)) 512 all-shift tm h in
+    (eqb→eq _ _ (both-left (halves tm) (xors tm) t), eqb→eq _ _ (both-right (halves tm) (xors tm) t))
+
+-- a shift keeps TM at most 511
+pub shift-small : (tm : ℕ) → tm < 512 → shiftOf tm < 512
+unfolding shiftOf
+shift-small tm h = omega arith
+
+-- the states passed are the difference that wraps: the one number of 64 bits that previous adds to the current count with
+pub passed-is : (m : Lh5801) → m .«timer_state» < 2 ^ 64 → m .«step_previous_state» < 2 ^ 64
+    → (passedOf m < 2 ^ 64) × ((passedOf m + m .«step_previous_state») % 2 ^ 64 ≡ m .«timer_state»)
+unfolding passedOf
+passed-is m h k = (omega arith, omega arith)
+
+pub passed-only : (m : Lh5801) (d : ℕ) → d < 2 ^ 64 → m .«step_previous_state» < 2 ^ 64
+    → (d + m .«step_previous_state») % 2 ^ 64 ≡ m .«timer_state»
+    → d ≡ passedOf m
+unfolding passedOf
+passed-only m d h k e = omega arith
+
+-- the timer part before 42 states have passed, and from then on
+pub timer-part-early : (m : Lh5801) → passedOf m < 42 → timerPartOf m ≡ m
+unfolding timerPartOf
+timer-part-early m h = rw (lt-leb 42 (passedOf m) h)
+
+pub timer-part-due : (m : Lh5801) → 42 ≤ passedOf m → timerPartOf m ≡ with-step-previous-state (timerIncOf m) (m .«timer_state»)
+unfolding timerPartOf
+timer-part-due m h = rw (le-leb 42 (passedOf m) h)
+
+-- the timer part keeps TM at most 511
+pub timer-part-small : (m : Lh5801) → m .tm < 512 → timerPartOf m .tm < 512
+unfolding timerPartOf timerIncOf with-tm with-is-timer-reached with-step-previous-state
+timer-part-small m h = go (leb 42 (passedOf m))
+  where
+    go : (t : Bool) → cond t (with-step-previous-state (timerIncOf m) (m .«timer_state»)) m .tm < 512
+    go true = shift-small (m .tm) h
+    go false = h
+
+-- 41 states passed: nothing changes
+pub passed-41 : (m : Lh5801) → passedOf m ≡ 41 → timerPartOf m ≡ m
+passed-41 m e = timer-part-early m (omega arith)
+
+-- 42 states passed: TM shifts once, and previous becomes the current count; after 84 too it shifts once, and the rest is lost
+pub passed-42 : (m : Lh5801) → passedOf m ≡ 42 → timerPartOf m ≡ with-step-previous-state (timerIncOf m) (m .«timer_state»)
+passed-42 m e = timer-part-due m (omega arith)
+
+pub passed-84 : (m : Lh5801) → passedOf m ≡ 84 → timerPartOf m ≡ with-step-previous-state (timerIncOf m) (m .«timer_state»)
+passed-84 m e = timer-part-due m (omega arith)

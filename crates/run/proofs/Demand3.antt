@@ -1,0 +1,152 @@
+-- Demand 3.
+use mathlib.Core.Path.{_≡_, refl, ap, _∙_}
+use mathlib.Core.List.{List, [], _∷_, append-nil, map, flatten, getLast, getLast-cons, cons-ne-nil}
+use mathlib.Core.Logic.{_≢_, ⊎-elim}
+use Prim.Native.Nat.{ℕ, _+_, _<_, _≤_}
+use native.Mathlib.Nat.{add-zero}
+use native.Mathlib.Omega.{arith}
+use Rattle.arithmetic.specs.declared.record.Lh5801.{Lh5801}
+use Rattle.pages.specs.Pages.{Pages, SameLength}
+use Rattle.pages.specs.Prog.{exec}
+use Rattle.pages.specs.Written.{Written}
+use Rattle.execution.proofs.StepKeeps.{step-small}
+use Rattle.execution.specs.Step.{Kind, did, stepOf}
+use Rattle.run.specs.declared.Settings.{Settings}
+use Rattle.run.specs.Entry.{Accepted}
+use Rattle.run.specs.Run.{Outcome, noStep, completed, runOf, settings, callsOf}
+use Rattle.run.specs.Demand.{sum, AtLeastOne, AllAccepted, SameAsRun, Demand3}
+use Rattle.run.proofs.Run.{run-each, run-written, join, run-split, SameButPages, run-agree}
+use Rattle.run.proofs.Entry.{limit-some, limit-most, call-run}
+
+-- the outcomes xs, one after another, come to the outcome x
+record Adds (x : Outcome) (xs : List Outcome) : Type 0 where
+  some-call : xs ≢ []
+  end : getLast xs some-call .told .end ≡ x .told .end
+  cpu : getLast xs some-call .told .cpu ≡ x .told .cpu
+  pages : getLast xs some-call .pages ≡ x .pages
+  steps : sum (map (λ (o : Outcome). o .told .steps) xs) ≡ x .told .steps
+  states : sum (map (λ (o : Outcome). o .told .states) xs) ≡ x .told .states
+  wrote : flatten (map (λ (o : Outcome). o .wrote) xs) ≡ x .wrote
+
+adds-one : (x : Outcome) → Adds x (x ∷ [])
+unfolding sum flatten
+adds-one x =
+    record {
+      some-call = cons-ne-nil x [];
+      end = refl;
+      cpu = refl;
+      pages = refl;
+      steps = add-zero _;
+      states = add-zero _;
+      wrote = append-nil _;
+    }
+
+adds-more : (x : Outcome) {y : Outcome} {ys : List Outcome} → Adds y ys → Adds (join x y) (x ∷ ys)
+unfolding sum flatten join
+adds-more x {y} {ys} h =
+    record {
+      some-call = cons-ne-nil x ys;
+      end = rw (getLast-cons x (h .some-call)) (h .end);
+      cpu = rw (getLast-cons x (h .some-call)) (h .cpu);
+      pages = rw (getLast-cons x (h .some-call)) (h .pages);
+      steps = rw (h .steps);
+      states = rw (h .states);
+      wrote = rw (h .wrote);
+    }
+
+-- one call, and one before others
+adds-last : (l key : ℕ) (m : Lh5801) (p : Pages) → Accepted (settings key l) m p → Adds (runOf (l + 0) key m p) (callsOf (l ∷ []) key m p)
+unfolding callsOf
+adds-last l key m p h = rw (call-run (settings key l) m p h, add-zero) (adds-one _)
+
+adds-first : (l n : ℕ) (ls : List ℕ) (key : ℕ) (m : Lh5801) (p : Pages) → Accepted (settings key l) m p → 1 ≤ n
+    → Adds (runOf n key (runOf l key m p .told .cpu) (runOf l key m p .pages))
+    (callsOf ls key (runOf l key m p .told .cpu) (runOf l key m p .pages))
+    → Adds (runOf (l + n) key m p) (callsOf (l ∷ ls) key m p)
+unfolding callsOf
+adds-first l n ls key m p h i rest = rw (call-run (settings key l) m p h, ← run-split l n key m p i) (adds-more _ rest)
+
+-- the calls, from the pages q, come to an outcome that differs from the run's at most in its pages
+same : {p q : Pages} {run x : Outcome} {xs : List Outcome} → Adds x xs → SameButPages run x
+    → Written p (run .wrote) (run .pages)
+    → Written q (x .wrote) (x .pages)
+    → SameAsRun p q run xs
+same h t v w =
+    record {
+      some-call = h .some-call;
+      end = h .end ∙ ap (λ a. a .end) (t .told);
+      number = rw (h .end, t .told);
+      byte = rw (h .end, t .told);
+      cpu = h .cpu ∙ ap (λ a. a .cpu) (t .told);
+      steps = h .steps ∙ ap (λ a. a .steps) (t .told);
+      states = h .states ∙ ap (λ a. a .states) (t .told);
+      wrote = h .wrote ∙ t .wrote;
+      run-pages = v;
+      list-pages = rw (h .wrote, h .pages) w;
+    }
+
+-- a smaller limit, and equally long pages
+first-accepted : (l n key : ℕ) {m : Lh5801} {p : Pages} → Accepted (settings key (l + n)) m p → 1 ≤ l → Accepted (settings key l) m p
+first-accepted l n key h i =
+    record { page0 = h .page0; page1 = h .page1; timer = h .timer; limit = ⊎-elim (λ e. omega arith) (λ e. omega (arith, limit-most h)) }
+
+long-accepted : {s : Settings} {m : Lh5801} {p q : Pages} → Accepted s m p → SameLength p q → Accepted s m q
+long-accepted h l = record { page0 = rw (← (l .page0)) (h .page0); page1 = rw (← (l .page1)) (h .page1); timer = h .timer; limit = h .limit }
+
+-- so long as a completed step keeps TM at most 511
+-- so do the steps of a call
+pub run-small : (n key : ℕ) (m : Lh5801) (p : Pages) → m .tm < 512 → runOf n key m p .told .cpu .tm < 512
+unfolding noStep completed
+run-small n key =
+    run-each key (λ n m p o. m .tm < 512 → o .told .cpu .tm < 512)
+    (λ m p h. h)
+    (λ n m p s e h. h)
+    (λ n m p k t kind e ih h. ih (step-small m key h p k t kind e))
+    n
+
+-- after the first call of a list, the others can be accepted
+rest-accepted : (l n key : ℕ) {m : Lh5801} {p : Pages} → Accepted (settings key (l + n)) m p → 1 ≤ n
+    → Accepted (settings key n) (runOf l key m p .told .cpu) (runOf l key m p .pages)
+rest-accepted l n key {m} {p} h i =
+    record {
+      page0 = rw (← (run-written l key m p .long .page0)) (h .page0);
+      page1 = rw (← (run-written l key m p .long .page1)) (h .page1);
+      timer = omega (arith, run-small l key m p (omega (arith, h .timer)));
+      limit = ⊎-elim (λ e. omega arith) (λ e. omega (arith, limit-most h));
+    }
+
+all-accepted : (l : ℕ) (ls : List ℕ) (key : ℕ) (m : Lh5801) (p : Pages)
+    → Accepted (settings key (l + sum ls)) m p
+    → 1 ≤ l
+    → AtLeastOne ls
+    → AllAccepted (l ∷ ls) key m p
+unfolding sum AtLeastOne AllAccepted
+all-accepted l [] key m p h i is = (first-accepted l 0 key h i, tt)
+all-accepted l (k ∷ ks) key m p h i is =
+    let a = first-accepted l (k + sum ks) key h i in
+    (a,
+    rw (call-run (settings key l) m p a)
+    (all-accepted k ks key _ _ (rest-accepted l (k + sum ks) key h (omega (arith, is .0))) (is .0) (is .1)))
+
+-- the calls come to one run with the sum of their limits
+calls-add : (l : ℕ) (ls : List ℕ) (key : ℕ) (m : Lh5801) (p : Pages)
+    → Accepted (settings key (l + sum ls)) m p
+    → 1 ≤ l
+    → AtLeastOne ls
+    → Adds (runOf (l + sum ls) key m p) (callsOf (l ∷ ls) key m p)
+unfolding sum AtLeastOne
+calls-add l [] key m p h i is = adds-last l key m p (first-accepted l 0 key h i)
+calls-add l (k ∷ ks) key m p h i is =
+    adds-first l (k + sum ks) (k ∷ ks) key m p (first-accepted l (k + sum ks) key h i) (omega (arith, is .0))
+    (calls-add k ks key _ _ (rest-accepted l (k + sum ks) key h (omega (arith, is .0))) (is .0) (is .1))
+
+pub demand-3 : Demand3
+unfolding Demand3 sum AtLeastOne
+demand-3 s m p h [] is e q l agree = absurd (omega (arith, limit-some h))
+demand-3 s m p h (k ∷ ks) is e q l agree =
+    let a : Accepted (settings (s .keyboard) (k + sum ks)) m q = rw e (long-accepted h l) in
+    (all-accepted k ks (s .keyboard) m q a (is .0) (is .1),
+    rw (call-run s m p h)
+    (same (rw e at (calls-add k ks (s .keyboard) m q a (is .0) (is .1))) (run-agree (s .limit) (s .keyboard) m p q l agree)
+    (run-written (s .limit) (s .keyboard) m p)
+    (run-written (s .limit) (s .keyboard) m q)))

@@ -1,0 +1,103 @@
+-- How the steps of a call end: what they reach, and whether the next step stops.
+use mathlib.Core.Path.{_≡_, refl, ap}
+use mathlib.Core.List.{List, [], _∷_, _++_, append-nil, append-assoc}
+use Prim.Native.Nat.{ℕ, zero, suc, _+_, _<_}
+use native.Mathlib.Nat.{zero-add, add-zero, add-assoc, not-suc-le-zero, le-of-suc-le-suc}
+use native.Mathlib.Omega.{arith}
+use Rattle.arithmetic.specs.declared.record.Lh5801.{Lh5801}
+use Rattle.pages.specs.Pages.{Pages}
+use Rattle.pages.specs.Prog.{Access, readOf, writeOf}
+use Rattle.pages.specs.Written.{Write, writes}
+use Rattle.execution.specs.declared.Stop.{Stop}
+use Rattle.execution.specs.Step.{Kind, did, stopped}
+use Rattle.run.specs.declared.End.the-variants.{AllSteps, Step}
+use Rattle.run.specs.Run.{Outcome, outcome, noStep, completed, oneStep, runOf, accessesOf}
+use Rattle.run.specs.Reaches.{Reaches, start, next}
+use Rattle.run.proofs.Run.{run-did, run-stop, accesses-did, accesses-stop, run-each}
+
+-- all n steps are completed, or fewer are and the next one stops
+pub data Ended (key n : ℕ) (o : Outcome) : Type 0 where
+  all : o .told .end ≡ AllSteps → o .told .steps ≡ n → Ended key n o
+  early : (s : Stop)
+      → o .told .end ≡ Step s
+      → o .told .steps < n
+      → oneStep key (o .told .cpu) (o .pages) .answer ≡ stopped s
+      → Ended key n o
+
+ended-more : {key n : ℕ} {o : Outcome} (t : ℕ) (ws : List Write) → Ended key n o → Ended key (suc n) (completed t ws o)
+unfolding completed
+ended-more t ws (all e h) = all e (ap suc h)
+ended-more t ws (early s e h x) = early s e (omega arith) x
+
+pub run-ended : (n key : ℕ) (m : Lh5801) (p : Pages) → Ended key n (runOf n key m p)
+unfolding noStep
+run-ended n key =
+    run-each key (λ n m p o. Ended key n o)
+    (λ m p. all refl refl)
+    (λ n m p s e. early s refl (omega arith) e)
+    (λ n m p k t kind e h. ended-more t _ h)
+    n
+
+-- what a call tells and leaves is what its completed steps lead to
+pub run-reaches : (n key : ℕ) (m : Lh5801) (p : Pages)
+    → Reaches key (runOf n key m p .told .steps) m p (runOf n key m p .told .cpu) (runOf n key m p .pages)
+    (runOf n key m p .told .states) (runOf n key m p .wrote)
+unfolding noStep completed
+run-reaches n key =
+    run-each key (λ n m p o. Reaches key (o .told .steps) m p (o .told .cpu) (o .pages) (o .told .states) (o .wrote))
+    (λ m p. start)
+    (λ n m p s e. start)
+    (λ n m p k t kind e h. next e h)
+    n
+
+-- and the other way round
+pub reaches-run : {key j : ℕ} {m k : Lh5801} {p q : Pages} {t : ℕ} {ws : List Write}
+    → Reaches key j m p k q t ws
+    → runOf j key m p ≡ outcome AllSteps j t k q ws
+unfolding noStep completed
+reaches-run start = unfold runOf in refl
+reaches-run {key} {m} {p} (next {j = j} e r) = rw (run-did key m p j e, reaches-run r)
+
+pub reaches-stop : {key j : ℕ} {m k : Lh5801} {p q : Pages} {t : ℕ} {ws : List Write} {s : Stop} (n : ℕ)
+    → Reaches key j m p k q t ws
+    → j < n
+    → oneStep key k q .answer ≡ stopped s
+    → runOf n key m p ≡ outcome (Step s) j t k q ws
+unfolding noStep completed
+reaches-stop zero r h x = absurd (not-suc-le-zero h)
+reaches-stop {key} {m} {p} (suc n) start h x = run-stop key m p n x
+reaches-stop {key} {m} {p} (suc n) (next e r) h x = rw (run-did key m p n e, reaches-stop n r (le-of-suc-le-suc h) x)
+
+-- one more completed step after those
+pub reaches-then : {key j : ℕ} {m k n : Lh5801} {p q : Pages} {t s : ℕ} {ws : List Write} {kind : Kind}
+    → Reaches key j m p k q t ws
+    → oneStep key k q .answer ≡ did n s kind
+    → Reaches key (suc j) m p n (oneStep key k q .pages) (t + s) (ws ++ writes (oneStep key k q .accesses))
+reaches-then start x = rw zero-add (rw (add-zero, append-nil) at (next x start))
+reaches-then (next e r) x = rw (add-assoc, append-assoc) (next e (reaches-then r x))
+
+-- the writes among a call's accesses are those of its completed steps, and after them those of the step that stops
+writes-append : (x y : List Access) → writes (x ++ y) ≡ writes x ++ writes y
+unfolding writes
+writes-append [] y = refl
+writes-append (readOf a b ∷ x) y = writes-append x y
+writes-append (writeOf a v ∷ x) y = ap (λ l. record { place = a; byte = v } ∷ l) (writes-append x y)
+
+pub run-writes : (n key : ℕ) (m : Lh5801) (p : Pages)
+    → ((runOf n key m p .told .end ≡ AllSteps) → writes (accessesOf n key m p) ≡ runOf n key m p .wrote)
+    × ((s : Stop) → runOf n key m p .told .end ≡ Step s
+    → writes (accessesOf n key m p)
+    ≡ runOf n key m p .wrote ++ writes (oneStep key (runOf n key m p .told .cpu) (runOf n key m p .pages) .accesses))
+unfolding noStep completed
+run-writes n key =
+    run-each key
+    (λ n m p o.
+        (o .told .end ≡ AllSteps → writes (accessesOf n key m p) ≡ o .wrote)
+        × ((s : Stop) → o .told .end ≡ Step s
+        → writes (accessesOf n key m p) ≡ o .wrote ++ writes (oneStep key (o .told .cpu) (o .pages) .accesses)))
+    (λ m p. (λ e. unfold writes accessesOf in refl, λ s e. absurd (let z : _≡_ {A = ℕ} 0 1 = cc in omega arith)))
+    (λ n m p s x. (λ e. absurd (let z : _≡_ {A = ℕ} 0 1 = cc in omega arith), λ y e. rw (accesses-stop key m p n x, append-nil)))
+    (λ n m p k t kind x h.
+        (λ e. rw (accesses-did key m p n x, writes-append, h .0 e),
+        λ s e. rw (accesses-did key m p n x, writes-append, h .1 s e, append-assoc)))
+    n

@@ -1,0 +1,101 @@
+-- The entry of a call: which condition gives which end.
+use mathlib.Core.Path.{_≡_}
+use mathlib.Core.Bool.{cond, _||_}
+use mathlib.Core.Logic.{inl, inr, ⊎-elim}
+use mathlib.Core.Option.{none, some}
+use Prim.Native.Nat.{_<_, _≤_}
+use native.Mathlib.Decide.{decLt, ℕ-discrete}
+use native.Mathlib.Omega.{arith}
+use borrow.Author.Tests.{lt-ltb, le-ltb, eq-eqb, ne-eqb}
+use lib.Dec.{ltb, eqb}
+use lib.ListN.{length}
+use Rattle.arithmetic.specs.declared.record.Lh5801.{Lh5801}
+use Rattle.pages.specs.Pages.{Pages}
+use Rattle.run.specs.declared.Settings.{Settings}
+use Rattle.run.specs.declared.End.{End}
+use Rattle.run.specs.declared.End.the-variants.{Page0Length, Page1Length, TimerValue, Limit}
+use Rattle.run.specs.Entry.{Page0TooLong, Page1TooLong, TimerTooLarge, LimitOut, Accepted, entryEnd}
+use Rattle.run.specs.Run.{Outcome, noStep, runOf, enteredOf, callOf}
+
+-- the bounds of an accepted call's limit
+pub limit-some : {s : Settings} {m : Lh5801} {p : Pages} → Accepted s m p → 1 ≤ s .limit
+limit-some {s} h = let z : ¬ (s .limit ≡ 0) = λ e. h .limit (inl e) in omega arith
+
+pub limit-most : {s : Settings} {m : Lh5801} {p : Pages} → Accepted s m p → s .limit ≤ 1_000_000
+limit-most {s} h = let z : ¬ (1_000_000 < s .limit) = λ l. h .limit (inr l) in omega arith
+
+module _ (s : Settings) (m : Lh5801) (p : Pages) where
+  -- a call is refused by the first condition that holds, or accepted
+  pub data Entry : Type 0 where
+    page0 : Page0TooLong p → Entry
+    page1 : ¬ Page0TooLong p → Page1TooLong p → Entry
+    timer : ¬ Page0TooLong p → ¬ Page1TooLong p → TimerTooLarge m → Entry
+    limit : ¬ Page0TooLong p → ¬ Page1TooLong p → ¬ TimerTooLarge m → LimitOut s → Entry
+    accepted : Accepted s m p → Entry
+
+  pub entry-case : Entry
+  entry-case =
+      go (decLt 65_536 (length (p .page0))) (decLt 65_536 (length (p .page1))) (decLt 511 (m .tm)) (ℕ-discrete (s .limit) 0)
+      (decLt 1_000_000 (s .limit))
+    where
+      go : Dec (Page0TooLong p) → Dec (Page1TooLong p) → Dec (TimerTooLarge m) → Dec (s .limit ≡ 0) → Dec (1_000_000 < s .limit) → Entry
+      go (yes a) b c d e = page0 a
+      go (no a) (yes b) c d e = page1 a b
+      go (no a) (no b) (yes c) d e = timer a b c
+      go (no a) (no b) (no c) (yes d) e = limit a b c (inl d)
+      go (no a) (no b) (no c) (no d) (yes e) = limit a b c (inr e)
+      go (no a) (no b) (no c) (no d) (no e) = accepted (record { page0 = a; page1 = b; timer = c; limit = ⊎-elim d e })
+
+  pub entry-page0 : Page0TooLong p → entryEnd s m p ≡ some Page0Length
+  unfolding entryEnd
+  entry-page0 h = rw (lt-ltb 65_536 (length (p .page0)) h)
+
+  pub entry-page1 : ¬ Page0TooLong p → Page1TooLong p → entryEnd s m p ≡ some Page1Length
+  unfolding entryEnd
+  entry-page1 a h = rw (le-ltb 65_536 (length (p .page0)) (omega arith), lt-ltb 65_536 (length (p .page1)) h)
+
+  pub entry-timer : ¬ Page0TooLong p → ¬ Page1TooLong p → TimerTooLarge m → entryEnd s m p ≡ some TimerValue
+  unfolding entryEnd
+  entry-timer a b h =
+      rw (le-ltb 65_536 (length (p .page0)) (omega arith), le-ltb 65_536 (length (p .page1)) (omega arith), lt-ltb 511 (m .tm) h)
+
+  -- the first three conditions do not hold
+  past-three : ¬ Page0TooLong p → ¬ Page1TooLong p → ¬ TimerTooLarge m
+      → entryEnd s m p ≡ cond (eqb (s .limit) 0 || ltb 1_000_000 (s .limit)) (some Limit) none
+  unfolding entryEnd
+  past-three a b c =
+      rw (le-ltb 65_536 (length (p .page0)) (omega arith), le-ltb 65_536 (length (p .page1)) (omega arith), le-ltb 511 (m .tm) (omega arith))
+
+  pub entry-limit : ¬ Page0TooLong p → ¬ Page1TooLong p → ¬ TimerTooLarge m → LimitOut s → entryEnd s m p ≡ some Limit
+  entry-limit a b c (inl h) = rw (past-three a b c, eq-eqb (s .limit) 0 h)
+  entry-limit a b c (inr h) = rw (past-three a b c, ne-eqb (s .limit) 0 (λ e. omega arith), lt-ltb 1_000_000 (s .limit) h)
+
+  pub entry-accepted : Accepted s m p → entryEnd s m p ≡ none
+  entry-accepted h =
+      rw (past-three (h .page0) (h .page1) (h .timer),
+      ne-eqb (s .limit) 0 (λ e. h .limit (inl e)),
+      le-ltb 1_000_000 (s .limit) (limit-most h))
+
+  -- an accepted call does its steps
+  pub call-run : Accepted s m p → callOf s m p ≡ runOf (s .limit) (s .keyboard) m p
+  unfolding callOf enteredOf
+  call-run h = rw (entry-accepted h)
+
+  -- a refused call does nothing
+  pub call-end : {e : End} → entryEnd s m p ≡ some e → callOf s m p ≡ noStep e m p
+  unfolding callOf enteredOf
+  call-end h = rw h
+
+  -- what holds of a refused call, and of the steps of an accepted one, holds of every call
+  pub call-each : (P : Outcome → Type 0)
+      → ((e : End) → P (noStep e m p))
+      → (Accepted s m p → P (runOf (s .limit) (s .keyboard) m p))
+      → P (callOf s m p)
+  call-each P a b = go entry-case
+    where
+      go : Entry → P (callOf s m p)
+      go (page0 x) = rw (call-end (entry-page0 x)) (a _)
+      go (page1 x y) = rw (call-end (entry-page1 x y)) (a _)
+      go (timer x y z) = rw (call-end (entry-timer x y z)) (a _)
+      go (limit x y z o) = rw (call-end (entry-limit x y z o)) (a _)
+      go (accepted h) = rw (call-run h) (b h)

@@ -1,0 +1,57 @@
+-- Demand 3 (document 01, "The runs of demand 3"): one statement about a run and a whole list of run calls.
+use Prim.Native.Nat.{ℕ, _+_, _≤_}
+use mathlib.Core.List.{List, [], _∷_, map, flatten, getLast}
+use mathlib.Core.Path.{_≡_}
+use mathlib.Core.Logic.{_≢_}
+use Rattle.arithmetic.specs.declared.record.Lh5801.{Lh5801}
+use Rattle.pages.specs.Pages.{Pages, SameLength}
+use Rattle.pages.specs.Written.{Written, Agree}
+use Rattle.run.specs.declared.Settings.{Settings}
+use Rattle.run.specs.Entry.{endNumber, endByte, Accepted}
+use Rattle.run.specs.Run.{Outcome, accessesOf, callOf, settings, callsOf}
+
+unfoldable pub sum : List ℕ → ℕ
+sum [] = 0
+sum (x ∷ xs) = x + sum xs
+
+unfoldable pub AtLeastOne : List ℕ → Type 0
+AtLeastOne [] = Unit {0}
+AtLeastOne (x ∷ xs) = (1 ≤ x) × AtLeastOne xs
+
+-- every call of the list is accepted
+unfoldable pub AllAccepted : List ℕ → ℕ → Lh5801 → Pages → Type 0
+AllAccepted [] key m p = Unit {0}
+AllAccepted (limit ∷ limits) key m p =
+    let x = callOf (settings key limit) m p in
+    Accepted (settings key limit) m p × AllAccepted limits key (x .told .cpu) (x .pages)
+
+-- the calls, from the pages q, tell and do what the run, from the pages p, does
+pub record SameAsRun (p q : Pages) (run : Outcome) (calls : List Outcome) : Type 0 where
+  pub some-call : calls ≢ []
+  -- document 01's "final stop": the number and the byte that the last call returns
+  pub end : getLast calls some-call .told .end ≡ run .told .end
+  pub number : endNumber (getLast calls some-call .told .end) ≡ endNumber (run .told .end)
+  pub byte : endByte (getLast calls some-call .told .end) ≡ endByte (run .told .end)
+  -- document 01's "end record": the one that it returns
+  pub cpu : getLast calls some-call .told .cpu ≡ run .told .cpu
+  -- "Steps and states are summed over the calls"
+  pub steps : sum (map (λ (o : Outcome). o .told .steps) calls) ≡ run .told .steps
+  pub states : sum (map (λ (o : Outcome). o .told .states) calls) ≡ run .told .states
+  pub wrote : flatten (map (λ (o : Outcome). o .wrote) calls) ≡ run .wrote
+  -- "On both sides a written byte holds what was last written there, and each unwritten byte is its own page's"
+  pub run-pages : Written p (run .wrote) (run .pages)
+  pub list-pages : Written q (flatten (map (λ (o : Outcome). o .wrote) calls)) (getLast calls some-call .pages)
+
+-- for every accepted run, and every list of limits, at least 1 each, that add up to the run's; for pages equally long, that agree at each
+-- byte that the run reads before it has written it. An empty list adds up to 0, and such a run is not accepted
+unfoldable pub Demand3 : Type 0
+Demand3 =
+    (s : Settings) (m : Lh5801) (p : Pages)
+    → Accepted s m p
+    → (limits : List ℕ)
+    → AtLeastOne limits
+    → sum limits ≡ s .limit
+    → (q : Pages)
+    → SameLength p q
+    → Agree p q (accessesOf (s .limit) (s .keyboard) m p)
+    → AllAccepted limits (s .keyboard) m q × SameAsRun p q (callOf s m p) (callsOf limits (s .keyboard) m q)

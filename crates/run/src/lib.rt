@@ -1,0 +1,145 @@
+// The run call.
+ghost use mathlib.Core.Path.{_≡_};
+ghost use Prim.Native.Nat.{_≤_, _<_};
+ghost use Rattle.pages.specs.Contract.{atEntry, atExit};
+ghost use Rattle.run.specs.Entry.{endNumber, endByte};
+ghost use Rattle.run.specs.Run.{runOf, callOf};
+ghost use Rattle.run.specs.Answers.{Answers, answer, statesBetween};
+use arithmetic::record::Lh5801;
+use execution::Outcome;
+
+// What a call is given besides the record and the pages.
+pub struct Settings {
+    pub keyboard: u8,
+    pub limit: u32,
+}
+
+// Why a call ended: all its steps done, refused at entry, or a step's stop.
+pub enum End {
+    AllSteps,
+    Page0Length,
+    Page1Length,
+    TimerValue,
+    Limit,
+    Step(execution::Stop),
+}
+
+// What a call tells.
+pub struct Answer {
+    pub end: End,
+    pub steps: u32,
+    pub states: u64,
+    pub cpu: Lh5801,
+}
+
+// The given record, and no step.
+fn refused(cpu: Lh5801, end: End) -> Answer
+    ensures { λ r. ⌜ r ≡ answer end 0 0 cpu ⌝ }
+{
+    Answer {
+        end: end,
+        steps: 0,
+        states: 0,
+        cpu: cpu,
+    }
+}
+
+// The record after the completed steps; their states are what the ticks moved on by since first.
+fn answered(cpu: Lh5801, first: u64, steps: u32, end: End) -> Answer
+    ensures { λ r. ⌜ r ≡ answer end steps (statesBetween first (cpu .ticks)) cpu ⌝ }
+{
+    let states = std::num::wrapping_sub_u64(cpu.ticks, first);
+    Answer {
+        end: end,
+        steps: steps,
+        states: states,
+        cpu: cpu,
+    }
+}
+
+// Steps up to the limit, or to the first that stops.
+fn steps_of(
+    cpu: Lh5801,
+    page0: &mut [u8],
+    page1: &mut [u8],
+    keyboard: u8,
+    limit: u32,
+) -> Answer
+    requires { ⌜ (cpu .tm < 512) × (limit ≤ 1000000) ⌝ }
+    ensures { λ r. ⌜ Answers (runOf limit keyboard cpu (atEntry page0 page1)) r (atExit page0 page1) ⌝ }
+{
+    let first = cpu.ticks;
+    let mut current = cpu;
+    let mut steps: u32 = 0;
+    while steps < limit {
+        let outcome = execution::step_cpu(current, page0, page1, keyboard);
+        match outcome {
+            Outcome::Completed(next) => {
+                current = next;
+                steps = steps + 1;
+            }
+            Outcome::Stopped(stop) => {
+                return answered(current, first, steps, End::Step(stop));
+            }
+        }
+    }
+    answered(current, first, steps, End::AllSteps)
+}
+
+// The run call: refused at entry, or its steps.
+pub fn run(cpu: Lh5801, page0: &mut [u8], page1: &mut [u8], settings: Settings) -> Answer
+    ensures { λ r. ⌜ Answers (callOf settings cpu (atEntry page0 page1)) r (atExit page0 page1) ⌝ }
+{
+    if 65536 < page0.len() {
+        return refused(cpu, End::Page0Length);
+    }
+    if 65536 < page1.len() {
+        return refused(cpu, End::Page1Length);
+    }
+    if 511 < cpu.tm {
+        return refused(cpu, End::TimerValue);
+    }
+    if settings.limit == 0 {
+        return refused(cpu, End::Limit);
+    }
+    if 1000000 < settings.limit {
+        return refused(cpu, End::Limit);
+    }
+    steps_of(cpu, page0, page1, settings.keyboard, settings.limit)
+}
+
+// Document 01's number of a call's end.
+pub fn number(end: End) -> u8
+    ensures { λ r. ⌜ r ≡ endNumber end ⌝ }
+{
+    match end {
+        End::AllSteps => 0,
+        End::Page0Length => 1,
+        End::Page1Length => 2,
+        End::TimerValue => 3,
+        End::Limit => 4,
+        End::Step(stop) => match stop {
+            execution::Stop::Unlisted(byte) => 5,
+            execution::Stop::UnlistedFd(byte) => 6,
+            execution::Stop::Halted => 7,
+        },
+    }
+}
+
+// Document 01's byte of a call's end.
+pub fn byte(end: End) -> u8
+    ensures { λ r. ⌜ r ≡ endByte end ⌝ }
+{
+    match end {
+        End::Step(stop) => match stop {
+            execution::Stop::Unlisted(byte) => byte,
+            execution::Stop::UnlistedFd(byte) => byte,
+            execution::Stop::Halted => 0,
+        },
+        End::AllSteps => 0,
+        End::Page0Length => 0,
+        End::Page1Length => 0,
+        End::TimerValue => 0,
+        End::Limit => 0,
+    }
+}

@@ -1,27 +1,32 @@
-//! Finds the original `lh5801.rs` and, with the feature `probe`, the port's static library.
+//! Finds the original `lh5801.rs` and, with the features `probe` and `port`, the port's static
+//! libraries.
 
 use std::env;
 use std::path::{Path, PathBuf};
 use std::process::exit;
 
 const DEFAULT_ORIGINAL: &str = "../../shared/docs/src/ceres-core/src/lh5801.rs";
-const DEFAULT_PROBE_DIR: &str = "../target/staticlib";
+const DEFAULT_LIBRARY_DIR: &str = "../target/staticlib";
+const DEFAULT_PORT_NAME: &str = "lh5801";
 
 fn main() {
     let here =
         PathBuf::from(env::var("CARGO_MANIFEST_DIR").expect("cargo sets CARGO_MANIFEST_DIR"));
     println!("cargo:rerun-if-changed=build.rs");
     original(&here);
-    if env::var_os("CARGO_FEATURE_PROBE").is_some() {
-        probe(&here);
-    }
+    probe(&here);
+    port(&here);
+}
+
+/// A variable of the environment; an empty one counts as not set.
+fn variable(name: &str) -> Option<String> {
+    println!("cargo:rerun-if-env-changed={name}");
+    env::var(name).ok().filter(|value| !value.is_empty())
 }
 
 /// Tells the compiler where the original file is.
 fn original(here: &Path) {
-    println!("cargo:rerun-if-env-changed=LH5801_RS");
-    let named = env::var_os("LH5801_RS").filter(|name| !name.is_empty());
-    let path = named.map_or_else(|| here.join(DEFAULT_ORIGINAL), PathBuf::from);
+    let path = variable("LH5801_RS").map_or_else(|| here.join(DEFAULT_ORIGINAL), PathBuf::from);
     println!("cargo:rerun-if-changed={}", path.display());
     match path.canonicalize() {
         Ok(full) if full.is_file() => {
@@ -39,21 +44,38 @@ fn original(here: &Path) {
 
 /// Links `libprobe.a`.
 fn probe(here: &Path) {
-    println!("cargo:rerun-if-env-changed=PROBE_LIB_DIR");
-    let named = env::var_os("PROBE_LIB_DIR").filter(|name| !name.is_empty());
-    let folder = named.map_or_else(|| here.join(DEFAULT_PROBE_DIR), PathBuf::from);
-    let library = folder.join("libprobe.a");
-    println!("cargo:rerun-if-changed={}", library.display());
-    match folder.canonicalize() {
-        Ok(full) if full.join("libprobe.a").is_file() => {
-            println!("cargo:rustc-link-search=native={}", full.display());
-            println!("cargo:rustc-link-lib=static=probe");
-        }
+    let named = variable("PROBE_LIB_DIR");
+    let folder = named.map_or_else(|| here.join(DEFAULT_LIBRARY_DIR), PathBuf::from);
+    if env::var_os("CARGO_FEATURE_PROBE").is_some() {
+        let more = "name the library's folder in the environment variable PROBE_LIB_DIR";
+        link("probe", "probe", &folder.join("libprobe.a"), more);
+    }
+}
+
+/// Links `liblh5801.a`, or the archive that `PORT_LIB_DIR` and `PORT_LIB_NAME` tell.
+fn port(here: &Path) {
+    let named = variable("PORT_LIB_DIR");
+    let folder = named.map_or_else(|| here.join(DEFAULT_LIBRARY_DIR), PathBuf::from);
+    let name = variable("PORT_LIB_NAME").unwrap_or_else(|| DEFAULT_PORT_NAME.to_string());
+    let archive = folder.join(format!("lib{name}.a"));
+    println!("cargo:rustc-env=PORT_ARCHIVE={}", archive.display());
+    if env::var_os("CARGO_FEATURE_PORT").is_some() {
+        let more = "name another archive in the environment variables PORT_LIB_DIR and \
+                    PORT_LIB_NAME";
+        link("port", "lh5801", &archive, more);
+    }
+}
+
+/// Gives an archive to the linker, by its full path: a package with a library of its own would
+/// otherwise link it into that library only.
+fn link(feature: &str, library: &str, archive: &Path, more: &str) {
+    println!("cargo:rerun-if-changed={}", archive.display());
+    match archive.canonicalize() {
+        Ok(full) if full.is_file() => println!("cargo:rustc-link-arg={}", full.display()),
         _ => fail(&format!(
-            "The feature `probe` links the port's static library, and it is not at {}: run \
-             `rt staticlib probe` first, or name the library's folder in the environment variable \
-             PROBE_LIB_DIR (an absolute path).",
-            library.display()
+            "The feature `{feature}` links the port's static library, and it is not at {}: run \
+             `rt staticlib {library}` first, or {more} (an absolute path).",
+            archive.display()
         )),
     }
 }

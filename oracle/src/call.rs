@@ -88,6 +88,21 @@ pub struct Call {
     pub pages: [Vec<u8>; 2],
 }
 
+/// The harness's own entry stops, in document 01's order.
+pub fn entry_stop(lengths: [usize; 2], tm: u16, limit: u32) -> Option<u8> {
+    if lengths[0] > GREATEST_PAGE {
+        Some(1)
+    } else if lengths[1] > GREATEST_PAGE {
+        Some(2)
+    } else if tm > GREATEST_TM {
+        Some(3)
+    } else if limit == 0 || limit > GREATEST_LIMIT {
+        Some(4)
+    } else {
+        None
+    }
+}
+
 /// A vector's two reads are marked by the model; the original's reads are all plain.
 #[derive(Clone, Copy, Debug, PartialEq, Eq)]
 pub enum AccessKind {

@@ -106,6 +106,48 @@ pub fn read(bytes: &[u8]) -> Result<Call, Defect> {
     Ok(call)
 }
 
+/// The greatest value of each number of the file, in the file's order.
+pub const GREATEST: [u64; 16] = [
+    0xFF,
+    0xFF,
+    0xFFFF,
+    0xFFFF,
+    0xFFFF,
+    0xFFFF,
+    0xFFFF,
+    4095,
+    511,
+    u64::MAX,
+    u64::MAX,
+    u64::MAX,
+    0xFF,
+    u32::MAX as u64,
+    GREATEST_CAMPAIGN_PAGE,
+    GREATEST_CAMPAIGN_PAGE,
+];
+
+/// A number in its shortest form.
+pub fn number(mut value: u64) -> Vec<u8> {
+    let mut groups = vec![];
+    while value >= 0x80 {
+        groups.push(value as u8 | 0x80);
+        value >>= 7;
+    }
+    groups.push(value as u8);
+    groups
+}
+
+/// The numbers of a call's file, in the file's order; the last two are the pages' lengths.
+pub fn numbers(call: &Call) -> [u64; 16] {
+    let r = &call.record;
+    let [a, t, keyboard] = [r.a, r.t, call.keyboard].map(u64::from);
+    let [x, y, u, s, p, tm, flags] = [r.x, r.y, r.u, r.s, r.p, r.tm, r.flags()].map(u64::from);
+    let (timer, previous, ticks) = (r.timer_state, r.step_previous_state, r.ticks);
+    let [length0, length1] = [0, 1].map(|page: usize| call.pages[page].len() as u64);
+    let limit = u64::from(call.limit);
+    [a, t, x, y, u, s, p, tm, flags, timer, previous, ticks, keyboard, limit, length0, length1]
+}
+
 #[cfg(test)]
 mod tests {
     use super::{read, Defect};

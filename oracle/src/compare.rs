@@ -4,7 +4,9 @@
 
 use std::fmt::Write;
 
-use crate::call::{Access, AccessKind, Answer, Call, Log, Side};
+use bare::Told;
+
+use crate::call::{Access, AccessKind, Answer, Call, Log, Record, Side};
 use crate::model::Model;
 use crate::opcodes::table;
 use crate::original::Original;
@@ -60,24 +62,39 @@ pub fn difference(left: &Answer, right: &Answer) -> Option<String> {
             return Some(format!("failure: {message}"));
         }
     }
+    let (number, byte, steps, states) = (left.number, left.byte, left.steps, left.states);
+    told_difference(&Told { number, byte, steps, states }, &left.record, right)
+        .or_else(|| pages_difference(slices(&left.pages), slices(&right.pages)))
+        .or_else(|| access_difference(left.log.as_ref()?, right.log.as_ref()?))
+}
+
+/// The first difference of what is told and of the end record.
+pub fn told_difference(told: &Told, record: &Record, right: &Answer) -> Option<String> {
+    if let Some(message) = &right.failure {
+        return Some(format!("failure: {message}"));
+    }
     let numbers = [
-        ("number", u64::from(left.number), u64::from(right.number)),
-        ("byte", u64::from(left.byte), u64::from(right.byte)),
-        ("steps", left.steps, right.steps),
-        ("states", left.states, right.states),
+        ("number", u64::from(told.number), u64::from(right.number)),
+        ("byte", u64::from(told.byte), u64::from(right.byte)),
+        ("steps", told.steps, right.steps),
+        ("states", told.states, right.states),
     ];
     if let Some((name, left, right)) = numbers.iter().find(|(_, left, right)| left != right) {
         return Some(format!("{name}: {left} and {right}"));
     }
-    if left.record != right.record {
-        return Some(format!("end record: {} and {}", left.record, right.record));
-    }
-    let pages = (0..2).find_map(|page| page_difference(page, &left.pages, &right.pages));
-    pages.or_else(|| access_difference(left.log.as_ref()?, right.log.as_ref()?))
+    (*record != right.record).then(|| format!("end record: {record} and {}", right.record))
 }
 
-fn page_difference(page: usize, left: &[Vec<u8>; 2], right: &[Vec<u8>; 2]) -> Option<String> {
-    let (left, right) = (&left[page], &right[page]);
+pub fn slices(pages: &[Vec<u8>; 2]) -> [&[u8]; 2] {
+    [&pages[0], &pages[1]]
+}
+
+/// The first difference of two pairs of pages.
+pub fn pages_difference(left: [&[u8]; 2], right: [&[u8]; 2]) -> Option<String> {
+    (0..2).find_map(|page| page_difference(page, left[page], right[page]))
+}
+
+fn page_difference(page: usize, left: &[u8], right: &[u8]) -> Option<String> {
     if left.len() != right.len() {
         return Some(format!("length of page {page}: {} and {}", left.len(), right.len()));
     }
@@ -207,7 +224,8 @@ pub fn run(calls: u64, seed: u64, side: Box<dyn Side>) -> bool {
     true
 }
 
-fn report_smallest(comparison: &mut Comparison, call: Call) {
+/// Makes a failing call smaller and prints what is left of it, with both answers.
+pub fn report_smallest(comparison: &mut Comparison, call: Call) {
     let smallest = shrink::shrink(call, &mut |call| comparison.differs(call));
     let (original, other, difference) = comparison.both(&smallest);
     println!("smallest failing input found:");
@@ -217,9 +235,10 @@ fn report_smallest(comparison: &mut Comparison, call: Call) {
     println!("first difference: {}", difference.unwrap_or_default());
 }
 
-/// An answer in one line: document 01's line, the byte and the accesses.
+/// An answer in one line: document 01's line, the byte and the accesses, where they are told.
 fn told(answer: &Answer) -> String {
-    let accesses = answer.log.iter().flat_map(|log| log.accesses.iter().take(40));
-    let accesses: Vec<String> = accesses.map(Access::to_string).collect();
-    format!("{} byte {:02X} accesses {}", answer.line(), answer.byte, accesses.join(", "))
+    let line = format!("{} byte {:02X}", answer.line(), answer.byte);
+    let Some(log) = &answer.log else { return line };
+    let accesses: Vec<String> = log.accesses.iter().take(40).map(Access::to_string).collect();
+    format!("{line} accesses {}", accesses.join(", "))
 }

@@ -2,151 +2,51 @@
 
 #![deny(unsafe_code)]
 
+mod arguments;
 #[cfg(feature = "probe")]
 mod arithmetic;
-mod call;
 mod campaign;
 mod compare;
+mod differential;
 mod directed;
+mod fuzz;
+mod help;
 mod list;
 mod memory;
 mod model;
-mod opcodes;
 mod original;
+mod port;
 #[cfg(feature = "probe")]
 mod probe;
 mod progress;
 mod random;
+mod rerun;
 mod shrink;
+mod speed;
+mod symbols;
 
 // The included file names these two from the crate's root.
-pub use original::{host_io, Pc1500};
+pub use bare::host_io;
+pub use original::Pc1500;
 
 use std::env;
 use std::fs::File;
 use std::io::{self, BufWriter, Read, Write};
+use std::path::{Path, PathBuf};
 use std::process::ExitCode;
 
+use arguments::Arguments;
+use bare::{call, opcodes};
 use call::{Answer, Call, Side};
+use help::HELP;
 use model::Model;
 use original::Original;
+use port::Port;
 
-const HELP: &str = "\
-The oracle runs the original lh5801.rs, included unchanged, over a flat memory.
-
-oracle run [FILE]          the original's line for a campaign file
-oracle compare N           N random calls, the original against another side
-oracle list N              a fixed list of the original's answers, as text
-oracle list --check FILE   such a list, checked
-oracle arithmetic          the arithmetic over all inputs, against libprobe.a
-oracle COMMAND --help      more about a command
-
-Status: 0 where all is well, 1 for a difference, 2 for a fault in the command or its files.
-";
-
-const RUN_HELP: &str = "\
-oracle run [FILE] [--model] [--trace]
-
-Reads a campaign file (document 01, \"Campaign file\") from FILE, or from standard input without
-FILE or with -, at most 33,000 bytes of it, and prints document 01's line from the original.
-
---model   the line from the model instead
---trace   each step's accesses on standard error, in the side's own order
-";
-
-const COMPARE_HELP: &str = "\
-oracle compare N [--seed S] [--side model]
-
-Runs N random calls on the original and on another side and compares number, byte, steps, states,
-end record, both pages and the accesses, with the original's vector reads put in document 01's
-order. Prints what was reached. At a difference it prints the smallest failing input it finds and
-ends with status 1.
-
---seed S      the seed, a decimal number; 1 without it
---side NAME   the other side; only model is there now
-";
-
-const LIST_HELP: &str = "\
-oracle list N [--seed S] [--out FILE]
-oracle list --check FILE [--model]
-
-Writes a list of the original's answers: the directed calls, then N random ones, one call a line;
-the file's head tells the format. Or reads such a list and compares every answer with the
-original's; a difference ends with status 1.
-
---seed S       the seed, a decimal number; 1 without it
---out FILE     where to write; standard output without it
---check FILE   the list to check
---model        check against the model instead
-";
-
-const ARITHMETIC_HELP: &str = "\
-oracle arithmetic
-
-Compares the original's private arithmetic methods with the port's static library libprobe.a over
-all inputs, one line a function; a difference ends with status 1. The command is there when the
-oracle is built with the feature `probe`:
-
-  rt staticlib probe                                  (at the repository's top)
-  cargo run --release --features probe -- arithmetic  (in oracle/)
-
-The environment variable PROBE_LIB_DIR names another folder of libprobe.a than ../target/staticlib.
-";
-
-/// What a command was given.
-#[derive(Default)]
-struct Arguments {
-    positional: Vec<String>,
-    /// Option and its value; a switch has an empty one.
-    options: Vec<(String, String)>,
-}
-
-impl Arguments {
-    /// Options with a value end in `=` in `known`, switches do not.
-    fn parse(words: &[String], known: &[&str]) -> Result<Arguments, String> {
-        let mut arguments = Arguments::default();
-        let mut words = words.iter();
-        while let Some(word) = words.next() {
-            if !word.starts_with("--") {
-                arguments.positional.push(word.clone());
-            } else if known.contains(&word.as_str()) {
-                arguments.options.push((word.clone(), String::new()));
-            } else if known.contains(&format!("{word}=").as_str()) {
-                let value = words.next().ok_or(format!("{word} wants a value"))?;
-                arguments.options.push((word.clone(), value.clone()));
-            } else {
-                return Err(format!("no such option: {word}"));
-            }
-        }
-        Ok(arguments)
-    }
-
-    fn option(&self, name: &str) -> Option<&str> {
-        let found = self.options.iter().find(|(option, _)| option == name);
-        found.map(|(_, value)| value.as_str())
-    }
-
-    fn has(&self, name: &str) -> bool {
-        self.option(name).is_some()
-    }
-
-    fn seed(&self) -> Result<u64, String> {
-        let text = self.option("--seed").unwrap_or("1");
-        text.parse().map_err(|_| format!("not a seed: {text}"))
-    }
-
-    fn positional(&self, most: usize) -> Result<Option<&str>, String> {
-        match self.positional.get(most) {
-            Some(word) => Err(format!("a word too many: {word}")),
-            None => Ok(self.positional.first().map(String::as_str)),
-        }
-    }
-
-    fn count(&self) -> Result<u64, String> {
-        let text = self.positional(1)?.ok_or("a number of calls is missing")?;
-        text.parse().map_err(|_| format!("not a number of calls: {text}"))
-    }
-}
+/// Where the port's program is without `--program`, and the measured campaign files without
+/// `--bench`.
+const CAMPAIGN: &str = concat!(env!("CARGO_MANIFEST_DIR"), "/../target/bin/campaign");
+const BENCH: &str = concat!(env!("CARGO_MANIFEST_DIR"), "/../../shared/bench");
 
 fn side(model: bool) -> Box<dyn Side> {
     if model {
@@ -201,12 +101,69 @@ fn trace(call: &Call, answer: &Answer) {
     let _ = writeln!(out, "stop {} byte {:02X}", answer.number, answer.byte);
 }
 
+/// A command that runs the port is there with the feature `port` only.
+fn wants_port() -> Result<(), String> {
+    if port::LINKED {
+        return Ok(());
+    }
+    Err(format!("this oracle was built without the feature `port`\n\n{}", help::PORT_HELP))
+}
+
 fn compare(arguments: &Arguments) -> Result<bool, String> {
-    let other = match arguments.option("--side").unwrap_or("model") {
+    let other: Box<dyn Side> = match arguments.option("--side").unwrap_or("model") {
         "model" => side(true),
+        "port" => wants_port().map(|()| Box::new(Port))?,
         name => return Err(format!("no such side: {name}")),
     };
     Ok(compare::run(arguments.count()?, arguments.seed()?, other))
+}
+
+fn differential(arguments: &Arguments) -> Result<bool, String> {
+    arguments.positional(0)?;
+    wants_port()?;
+    let steps = arguments.positive("--steps", 100_000_000)?;
+    let threads = arguments.positive("--threads", 2)?.min(64);
+    Ok(differential::run(&differential::Settings { steps, seed: arguments.seed()?, threads }))
+}
+
+fn rerun(arguments: &Arguments) -> Result<bool, String> {
+    wants_port()?;
+    Ok(rerun::run(arguments.count()?, arguments.seed()?))
+}
+
+fn campaign(arguments: &Arguments) -> Result<bool, String> {
+    let program = PathBuf::from(arguments.option("--program").unwrap_or(CAMPAIGN));
+    let program = program.canonicalize().map_err(|error| {
+        format!("{}: {error}: run `rt check campaign` first, or use --program", program.display())
+    })?;
+    let (files, seed) = (arguments.count()?, arguments.seed()?);
+    Ok(fuzz::run(&fuzz::Settings { files, seed, program }))
+}
+
+fn speed(arguments: &Arguments) -> Result<bool, String> {
+    arguments.positional(0)?;
+    wants_port()?;
+    let bench = PathBuf::from(arguments.option("--bench").unwrap_or(BENCH));
+    let rounds = arguments.positive("--rounds", 15)?;
+    speed::run(&speed::Settings { rounds, bench })?;
+    Ok(true)
+}
+
+fn once(arguments: &Arguments) -> Result<bool, String> {
+    let [way, file] = arguments.exactly("original, bare or port, and a FILE")?;
+    if !speed::WAYS.contains(&way) {
+        return Err(format!("no such way to run: {way}"));
+    }
+    if way == "port" {
+        wants_port()?;
+    }
+    println!("{}", speed::once(way, Path::new(file))?);
+    Ok(true)
+}
+
+fn symbols(arguments: &Arguments) -> Result<bool, String> {
+    let archive = arguments.positional(1)?.unwrap_or(env!("PORT_ARCHIVE"));
+    symbols::run(Path::new(archive))
 }
 
 fn list(arguments: &Arguments) -> Result<bool, String> {
@@ -247,18 +204,24 @@ fn arithmetic(arguments: &Arguments) -> Result<bool, String> {
 
 #[cfg(not(feature = "probe"))]
 fn arithmetic(_: &Arguments) -> Result<bool, String> {
-    Err(format!("this oracle was built without the feature `probe`\n\n{ARITHMETIC_HELP}"))
+    Err(format!("this oracle was built without the feature `probe`\n\n{}", help::ARITHMETIC_HELP))
 }
 
 /// A command: its name, help, options and function.
 type Command =
     (&'static str, &'static str, &'static [&'static str], fn(&Arguments) -> Result<bool, String>);
 
-const COMMANDS: [Command; 4] = [
-    ("run", RUN_HELP, &["--model", "--trace"], run),
-    ("compare", COMPARE_HELP, &["--seed=", "--side="], compare),
-    ("list", LIST_HELP, &["--seed=", "--out=", "--check=", "--model"], list),
-    ("arithmetic", ARITHMETIC_HELP, &[], arithmetic),
+const COMMANDS: [Command; 10] = [
+    ("run", help::RUN_HELP, &["--model", "--trace"], run),
+    ("compare", help::COMPARE_HELP, &["--seed=", "--side="], compare),
+    ("differential", help::DIFFERENTIAL_HELP, &["--steps=", "--seed=", "--threads="], differential),
+    ("rerun", help::RERUN_HELP, &["--seed="], rerun),
+    ("campaign", help::CAMPAIGN_HELP, &["--seed=", "--program="], campaign),
+    ("speed", help::SPEED_HELP, &["--rounds=", "--bench="], speed),
+    ("once", help::ONCE_HELP, &[], once),
+    ("symbols", help::SYMBOLS_HELP, &[], symbols),
+    ("list", help::LIST_HELP, &["--seed=", "--out=", "--check=", "--model"], list),
+    ("arithmetic", help::ARITHMETIC_HELP, &[], arithmetic),
 ];
 
 fn dispatch(words: &[String]) -> Result<bool, String> {

@@ -12,72 +12,18 @@ use std::panic::{catch_unwind, set_hook, take_hook, AssertUnwindSafe};
 use std::sync::Once;
 
 use self::lh5801::Lh5801;
-use crate::call::{
-    AccessKind, Answer, Call, Record, Side, GREATEST_LIMIT, GREATEST_PAGE, GREATEST_TM,
-};
+use crate::call::{entry_stop, AccessKind, Answer, Call, Record, Side};
 use crate::memory::Memory;
+use bare::Keyboard;
 
 /// The included file. Only code of this module reaches its private fields and functions.
 #[allow(dead_code, unused, clippy::all, clippy::pedantic)]
 mod lh5801 {
     include!(env!("LH5801_RS_PATH"));
 
-    use crate::call::Record;
+    include!("unit.rs");
 
     impl Lh5801 {
-        /// The unit with this record. Every other field is as `default()` leaves it: no reset
-        /// pending, no fast forward, no printing.
-        pub fn from_record(r: &Record) -> Lh5801 {
-            Lh5801 {
-                a: r.a,
-                t: r.t,
-                x: r.x,
-                y: r.y,
-                u: r.u,
-                s: r.s,
-                p: r.p,
-                is_halted: r.is_halted,
-                pu: r.pu,
-                pv: r.pv,
-                bf: r.bf,
-                disp: r.disp,
-                ir0: r.ir0,
-                ir1: r.ir1,
-                ir2: r.ir2,
-                is_timer_reached: r.is_timer_reached,
-                tm: r.tm,
-                timer_state: r.timer_state as usize,
-                step_previous_state: r.step_previous_state as usize,
-                ticks: r.ticks as usize,
-                ..Lh5801::default()
-            }
-        }
-
-        pub fn record(&self) -> Record {
-            Record {
-                a: self.a,
-                t: self.t,
-                x: self.x,
-                y: self.y,
-                u: self.u,
-                s: self.s,
-                p: self.p,
-                is_halted: self.is_halted,
-                pu: self.pu,
-                pv: self.pv,
-                bf: self.bf,
-                disp: self.disp,
-                ir0: self.ir0,
-                ir1: self.ir1,
-                ir2: self.ir2,
-                is_timer_reached: self.is_timer_reached,
-                tm: self.tm,
-                timer_state: self.timer_state as u64,
-                step_previous_state: self.step_previous_state as u64,
-                ticks: self.ticks as u64,
-            }
-        }
-
         pub fn set_a_and_t(&mut self, a: u8, t: u8) {
             self.a = a;
             self.t = t;
@@ -146,28 +92,6 @@ mod lh5801 {
         pub fn original_adr(&mut self, reg: u16) -> u16 {
             self.adr(reg)
         }
-    }
-}
-
-/// What the included file asks of `host_io`. Traps are left out: `host_trap` answers false.
-pub mod host_io {
-    pub const TRAP_PAGE: u16 = 0x9800;
-    pub const TRAP_PAGE_MASK: u16 = 0xF800;
-    pub const TRAP_STATES: u8 = 200;
-}
-
-/// One fixed byte in place of the keyboard.
-pub struct Keyboard {
-    byte: u8,
-}
-
-impl Keyboard {
-    pub fn input(&self) -> u8 {
-        self.byte
-    }
-
-    pub fn on_pulse_pending(&self) -> bool {
-        false
     }
 }
 
@@ -247,21 +171,6 @@ fn step(machine: &mut Pc1500) -> Result<(), Panicked> {
     outcome.map_err(|payload| panicked(payload.as_ref()))
 }
 
-/// The harness's own entry stops.
-fn entry_stop(call: &Call) -> Option<u8> {
-    if call.pages[0].len() > GREATEST_PAGE {
-        Some(1)
-    } else if call.pages[1].len() > GREATEST_PAGE {
-        Some(2)
-    } else if call.record.tm > GREATEST_TM {
-        Some(3)
-    } else if call.limit == 0 || call.limit > GREATEST_LIMIT {
-        Some(4)
-    } else {
-        None
-    }
-}
-
 /// The harness's own stop 7, in place of `halted_states`. A reached timer counts as IR1.
 fn stops_halted(r: &Record) -> bool {
     let requested = r.is_timer_reached || r.ir1 || r.ir2;
@@ -306,7 +215,8 @@ impl Side for Original {
 
     fn call(&mut self, call: &Call) -> Answer {
         install_silent_hook();
-        if let Some(number) = entry_stop(call) {
+        let lengths = [call.pages[0].len(), call.pages[1].len()];
+        if let Some(number) = entry_stop(lengths, call.record.tm, call.limit) {
             return Answer::refused(call, number);
         }
         let mut machine = Pc1500::new(&call.record, call.keyboard, call.pages.clone());

@@ -246,6 +246,16 @@ fn is_unlisted(byte: u8) -> bool {
     table()[0][usize::from(byte)].is_none()
 }
 
+/// Puts code into page 0, wrapping at FFFF; what lies past the page's end is left out.
+pub fn place(page: &mut [u8], at: u16, code: &[u8]) {
+    for (i, byte) in code.iter().enumerate() {
+        let offset = usize::from(at.wrapping_add(i as u16));
+        if let Some(place) = page.get_mut(offset) {
+            *place = *byte;
+        }
+    }
+}
+
 /// A random call with whole pages.
 pub fn call(random: &mut Random) -> Call {
     let lengths = [length(random), length(random)];
@@ -254,12 +264,7 @@ pub fn call(random: &mut Random) -> Call {
     if !random.chance(5) {
         let size = random.pick(&[8, 40, 120]);
         let code = program(random, size, lengths, record.p);
-        for (i, byte) in code.into_iter().enumerate() {
-            let offset = usize::from(record.p.wrapping_add(i as u16));
-            if let Some(place) = pages[0].get_mut(offset) {
-                *place = byte;
-            }
-        }
+        place(&mut pages[0], record.p, &code);
     }
     for page in &mut pages {
         if random.below(300) == 0 {
@@ -267,4 +272,60 @@ pub fn call(random: &mut Random) -> Call {
         }
     }
     Call { record, keyboard: random.byte(), limit: limit(random), pages }
+}
+
+/// Two pages that execution can wander over: page 0 is mostly full of listed instructions.
+pub fn world(random: &mut Random) -> [Vec<u8>; 2] {
+    let lengths = [length(random), length(random)];
+    let mut pages = [page(random, lengths[0]), page(random, lengths[1])];
+    match random.below(10) {
+        0..=4 => {
+            pages[0] = program(random, lengths[0], lengths, random.clone().word());
+            pages[0].truncate(lengths[0]);
+        }
+        5..=7 => walkable(random, &mut pages[0]),
+        _ => {}
+    }
+    for page in &mut pages {
+        if random.below(200) == 0 {
+            page.resize(65_537, 0x38);
+        }
+    }
+    pages
+}
+
+/// Every byte is listed in the first page, and every byte after FD is listed there too.
+fn walkable(random: &mut Random, page: &mut [u8]) {
+    let mut after_fd = false;
+    for place in page {
+        loop {
+            *place = listed(random, 0);
+            if !after_fd || table()[1][usize::from(*place)].is_some() {
+                break;
+            }
+        }
+        after_fd = !after_fd && random.chance(15);
+        if after_fd {
+            *place = 0xFD;
+        }
+    }
+}
+
+/// Changes a part of the record, as a host may between two calls.
+pub fn change(random: &mut Random, record: &mut Record, lengths: [usize; 2]) {
+    let program = record.p;
+    match random.below(12) {
+        0 => record.p = start(random, lengths),
+        1 => record.p = address(random, lengths, program),
+        2 => record.s = address(random, lengths, program),
+        3 => record.x = address(random, lengths, program),
+        4 => record.y = address(random, lengths, program),
+        5 => record.u = address(random, lengths, program),
+        6 => (record.a, record.t) = (accumulator(random), random.byte()),
+        7 => record.tm = timer_value(random),
+        8 => (record.timer_state, record.step_previous_state) = timer(random),
+        9 => record.ir1 = true,
+        10 => record.ir2 = true,
+        _ => record.set_flags(flags(random)),
+    }
 }

@@ -17,7 +17,7 @@ use Rattle.run.specs.declared.End.the-variants.{AllSteps, Step}
 use Rattle.run.specs.Entry.{endNumber, Accepted}
 use Rattle.run.specs.Run.{Outcome, outcome, noStep, completed, oneStep, runOf, callOf, callNumber}
 use Rattle.run.specs.Reaches.{Reaches, StopsWithin}
-use Rattle.run.proofs.Run.{run-each, run-written}
+use Rattle.run.proofs.Steps.{run-each, run-written}
 use Rattle.run.proofs.Entry.{Entry, page0, page1, timer, limit, accepted, entry-case, limit-most, call-run, call-each}
 use Rattle.run.proofs.Numbers.{stop-number, number-1, number-2, number-3, number-4}
 use Rattle.run.proofs.Ends.{Ended, all, early, run-ended, run-reaches, reaches-run, reaches-stop}

@@ -15,7 +15,7 @@ use Rattle.run.specs.declared.Settings.{Settings}
 use Rattle.run.specs.Entry.{Accepted}
 use Rattle.run.specs.Run.{Outcome, noStep, completed, runOf, settings, callsOf}
 use Rattle.run.specs.Demand.{sum, AtLeastOne, AllAccepted, SameAsRun, Demand3}
-use Rattle.run.proofs.Run.{run-each, run-written, join, run-split, SameButPages, run-agree}
+use Rattle.run.proofs.Steps.{run-each, run-written, join, run-split, SameButPages, run-agree}
 use Rattle.run.proofs.Entry.{limit-some, limit-most, call-run}
 
 -- the outcomes xs, one after another, come to the outcome x

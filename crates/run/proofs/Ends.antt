@@ -13,7 +13,7 @@ use Rattle.execution.specs.Step.{Kind, did, stopped}
 use Rattle.run.specs.declared.End.the-variants.{AllSteps, Step}
 use Rattle.run.specs.Run.{Outcome, outcome, noStep, completed, oneStep, runOf, accessesOf}
 use Rattle.run.specs.Reaches.{Reaches, start, next}
-use Rattle.run.proofs.Run.{run-did, run-stop, accesses-did, accesses-stop, run-each}
+use Rattle.run.proofs.Steps.{run-did, run-stop, accesses-did, accesses-stop, run-each}
 
 -- all n steps are completed, or fewer are and the next one stops
 pub data Ended (key n : ℕ) (o : Outcome) : Type 0 where

@@ -1,7 +1,10 @@
-pub mod Run
+pub mod Steps
 pub mod Entry
 pub mod Numbers
 pub mod Ends
 pub mod Calls
 pub mod Demand3
 pub mod Loop
+pub mod CampaignFile
+pub mod PrintedLine
+pub mod Parts

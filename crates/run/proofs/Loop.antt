@@ -5,7 +5,8 @@ use native.Mathlib.Numerals.{add-one}
 use mathlib.Core.List.{List, [], _++_}
 use mathlib.Core.Path.{_≡_, refl, sym, ap, subst, _∙_}
 use Rattle.arithmetic.specs.declared.record.Lh5801.{Lh5801}
-use Rattle.pages.specs.Pages.{Pages}
+use lib.ListN.{length}
+use Rattle.pages.specs.Pages.{Pages, pages}
 use Rattle.pages.specs.Prog.{Prog, done, mapped, exec}
 use Rattle.pages.specs.Contract.{Does}
 use Rattle.pages.specs.Written.{Write, writes}
@@ -38,6 +39,16 @@ pub record Going (key limit : ℕ) (first : Lh5801) (from : Pages) (steps : ℕ)
   pub reached : Reaches key steps first from m p states wrote
   pub ticks : m .ticks % 2 ^ 64 ≡ (first .ticks + states) % 2 ^ 64
   pub most : states ≤ 23 * steps
+
+-- the same of the lent pages, which keep their lengths
+pub record Kept (key limit : ℕ) (first : Lh5801) (l0 l1 : List ℕ) (steps : ℕ) (m : Lh5801) (n0 n1 : List ℕ) : Type 0 where
+  pub long0 : length n0 ≡ length l0
+  pub long1 : length n1 ≡ length l1
+  pub going : Going key limit first (pages l0 l1) steps m (pages n0 n1)
+
+-- the states between two counts are the one number of 64 bits that the first count added to gives the second
+pub states-only : {r first now : ℕ} → r < 2 ^ 64 → first < 2 ^ 64 → (r + first) % 2 ^ 64 ≡ now → r ≡ statesBetween first now
+states-only h f e = omega arith
 
 pub at-start : (key limit : ℕ) (m : Lh5801) (p : Pages) → m .tm < 512 → Going key limit m p 0 m p
 at-start key limit m p h =
@@ -83,26 +94,26 @@ module _ {key limit : ℕ} {first : Lh5801} {from : Pages} {steps : ℕ} {m : Lh
       (λ s kind k e. subst (Going key limit first from (steps + 1) k) (left m key d) (after-did s kind k h e))
 
   -- the states so far, from the ticks
-  counted : limit ≤ 1_000_000 → first .ticks < 2 ^ 64 → m .ticks < 2 ^ 64 → statesBetween (first .ticks) (m .ticks) ≡ g .states
-  counted l f h = omega (arith, g .ticks, g .most, g .within)
+  counted : limit ≤ 1_000_000 → statesBetween (first .ticks) (m .ticks) ≡ g .states
+  counted l = omega (arith, g .ticks, g .most, g .within)
 
-  pub stop-at : {s : Stop} {q : Pages} → steps < limit → limit ≤ 1_000_000 → first .ticks < 2 ^ 64 → m .ticks < 2 ^ 64
+  pub stop-at : {s : Stop} {q : Pages} → steps < limit → limit ≤ 1_000_000
       → Does (mapped outcomeOf (stepOf m key)) p (Stopped s) q
       → Answers (runOf limit key first from) (answer (Step s) steps (statesBetween (first .ticks) (m .ticks)) m) q
-  stop-at {s = s} h l f t d =
+  stop-at {s = s} h l d =
       let e : oneStep key m p .answer ≡ stopped s = told-stop (oneStep key m p .answer) (answered m key d) in
       record {
-        told = rw (counted l f t, reaches-stop limit (g .reached) h e);
+        told = rw (counted l, reaches-stop limit (g .reached) h e);
         pages = rw (reaches-stop limit (g .reached) h e) (sym (left m key d) ∙ stop-no-write m key p s e .1);
       }
 
 pub at-limit : {key limit : ℕ} {first : Lh5801} {from : Pages} {steps : ℕ} {m : Lh5801} {p : Pages} (g : Going key limit first from steps m p)
-    → limit ≤ steps → limit ≤ 1_000_000 → first .ticks < 2 ^ 64 → m .ticks < 2 ^ 64
+    → limit ≤ steps → limit ≤ 1_000_000
     → Answers (runOf limit key first from) (answer AllSteps steps (statesBetween (first .ticks) (m .ticks)) m) p
-at-limit {key} {limit} {first} {from} {steps} {m} {p} g h l f t =
+at-limit {key} {limit} {first} {from} {steps} {m} {p} g h l =
     let e : limit ≡ steps = omega (arith, g .within) in
     let r : runOf limit key first from ≡ _ = ap (λ (n : ℕ). runOf n key first from) e ∙ reaches-run (g .reached) in
-    record { told = rw (counted g l f t, r) refl; pages = rw r refl }
+    record { told = rw (counted g l, r) refl; pages = rw r refl }
 
 -- a call that is refused at entry, and one that is accepted
 module _ (s : Settings) (m : Lh5801) (p : Pages) where

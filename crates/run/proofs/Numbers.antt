@@ -14,7 +14,7 @@ use Rattle.run.specs.declared.End.{End}
 use Rattle.run.specs.declared.End.the-variants.{AllSteps, Page0Length, Page1Length, TimerValue, Limit, Step}
 use Rattle.run.specs.Entry.{endNumber, endByte, Page0TooLong, Page1TooLong, TimerTooLarge, LimitOut, Accepted}
 use Rattle.run.specs.Run.{Outcome, noStep, completed, runOf, callOf, callNumber}
-use Rattle.run.proofs.Run.{run-each}
+use Rattle.run.proofs.Steps.{run-each}
 use Rattle.run.proofs.Entry.{Entry, page0, page1, timer, limit, accepted, entry-case, entry-page0, entry-page1, entry-timer, entry-limit, call-run, call-end}
 
 -- "The byte returned is 0 unless the number is 5 or 6"

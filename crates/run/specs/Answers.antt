@@ -16,4 +16,4 @@ answer e steps states m = record { end = e; steps = steps; states = states; cpu 
 
 -- the states from one count of ticks to another, which wraps on 64 bits. proofs/Loop.antt shows that over a call they are the sum of the steps' states
 abbrev pub statesBetween : ℕ → ℕ → ℕ
-statesBetween first now = (now + (2 ^ 64 - first)) % 2 ^ 64
+statesBetween first now = (now + (2 ^ 64 - first % 2 ^ 64)) % 2 ^ 64

@@ -3,3 +3,6 @@ pub mod Run
 pub mod Reaches
 pub mod Demand
 pub mod Answers
+pub mod CampaignFile
+pub mod Line
+pub mod Report

@@ -8,6 +8,10 @@ ghost use Rattle.run.specs.Answers.{Answers, answer, statesBetween};
 use arithmetic::record::Lh5801;
 use execution::Outcome;
 
+pub mod campaign_file;
+pub mod line;
+pub mod report;
+
 // What a call is given besides the record and the pages.
 pub struct Settings {
     pub keyboard: u8,

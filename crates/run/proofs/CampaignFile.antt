@@ -1,0 +1,4 @@
+pub mod Groups
+pub mod Answers
+pub mod Number
+pub mod ReadBack

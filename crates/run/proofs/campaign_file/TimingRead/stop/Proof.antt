@@ -1,0 +1,26 @@
+use borrow.Author.Needs.{needs}
+use mathlib.Core.Path.{ap, sym}
+use Rattle.run.specs.CampaignFile.{timingStop}
+use Rattle.run.proofs.campaign_file.TimingRead.stop.Statement.{statement}
+use Rattle.run.proofs.campaign_file.TimingRead.stop.Tie as tie
+use Rattle.run.proofs.campaign_file.TimingRead.stop.Reads as reads
+use Rattle.run.proofs.campaign_file.TimingRead.stop.Lts as lts
+
+-- src/campaign_file.rt:167:33
+enum-known-self : tie.Need-enum-known-self
+enum-known-self c = search needs
+
+-- src/campaign_file.rt:168:33
+enum-known-self-2 : tie.Need-enum-known-self-2
+enum-known-self-2 c = search needs
+
+-- src/campaign_file.rt:163:5
+returns : tie.Need-returns
+returns c = search needs
+
+-- src/campaign_file.rt:163:5
+returns-2 : tie.Need-returns-2
+returns-2 c = ap timingStop (sym (c .before .self2 .given .1))
+
+pub stop-spec : {M : Type 1} → statement M
+stop-spec = tie.close (tie.spec enum-known-self enum-known-self-2 returns returns-2)

@@ -1,0 +1,148 @@
+use mathlib.Core.Path.{_∙_}
+use native.Mathlib.Omega.{arith}
+use Rattle.run.proofs.PrintedLine.{put-then, put-length, decimal-one, decimal-more, length-one, length-more}
+use Prim.Native.Nat.{ℕ, _<_}
+use borrow.Fn.Kinds.{In}
+use borrow.Fn.PlainCycle.{Measures, is, falls, and}
+use Rattle.run.proofs.line.put_decimal.Reads as put-decimal
+use Rattle.run.proofs.line.put_decimal.Kinds as put-decimal-kinds
+use Rattle.run.proofs.line.+put_decimal.Lts-put_decimal as put-decimal-lts
+use Rattle.run.proofs.line.put.Reads as put-reads
+use Rattle.run.proofs.line.+put_decimal.{statement}
+use Rattle.run.proofs.line.+put_decimal.Tie.{close}
+
+abbrev μ-put-decimal : Measures 1 put-decimal-kinds.ps ℕ
+μ-put-decimal κs a = a .1 .1 .0
+
+abbrev put-decimal-at : ℕ → In 1 put-decimal-kinds.ps
+put-decimal-at t =
+    and 1 put-decimal-kinds.ps (is 1 put-decimal-kinds.ps μ-put-decimal t) put-decimal.Pre
+
+abbrev put-decimal-below : ℕ → In 1 put-decimal-kinds.ps
+put-decimal-below t =
+    and 1 put-decimal-kinds.ps (falls 1 put-decimal-kinds.ps _<_ μ-put-decimal t) put-decimal.Pre
+
+-- src/line.rt:43:30
+put-decimal-cast-put : (t : ℕ) → put-decimal-lts.Need-cast-put (
+  put-reads.Asked,
+  put-reads.Learnt,
+  put-decimal-below t,
+  put-decimal.Post,
+) (put-decimal-at t) put-decimal.Post
+put-decimal-cast-put t c = omega arith
+
+-- src/line.rt:43:25
+put-decimal-add-put : (t : ℕ) → put-decimal-lts.Need-add-put (
+  put-reads.Asked,
+  put-reads.Learnt,
+  put-decimal-below t,
+  put-decimal.Post,
+) (put-decimal-at t) put-decimal.Post
+put-decimal-add-put t c = omega arith
+
+-- src/line.rt:43:9
+put-decimal-put-requires : (t : ℕ) → put-decimal-lts.Need-put-requires (
+  put-reads.Asked,
+  put-reads.Learnt,
+  put-decimal-below t,
+  put-decimal.Post,
+) (put-decimal-at t) put-decimal.Post
+put-decimal-put-requires t c κs = omega (arith, length-one (c .before .before .before .args .value) (omega arith))
+
+-- src/line.rt:45:13
+put-decimal-put-decimal-requires : (t : ℕ) → put-decimal-lts.Need-put-decimal-requires (
+  put-reads.Asked,
+  put-reads.Learnt,
+  put-decimal-below t,
+  put-decimal.Post,
+) (put-decimal-at t) put-decimal.Post
+put-decimal-put-decimal-requires t c κs = omega (arith, length-more (c .before .before .before .args .value) (omega arith) (omega arith))
+
+-- src/line.rt:46:32
+put-decimal-cast-put-2 : (t : ℕ) → put-decimal-lts.Need-cast-put-2 (
+  put-reads.Asked,
+  put-reads.Learnt,
+  put-decimal-below t,
+  put-decimal.Post,
+) (put-decimal-at t) put-decimal.Post
+put-decimal-cast-put-2 t c = omega arith
+
+-- src/line.rt:46:27
+put-decimal-add-put-2 : (t : ℕ) → put-decimal-lts.Need-add-put-2 (
+  put-reads.Asked,
+  put-reads.Learnt,
+  put-decimal-below t,
+  put-decimal.Post,
+) (put-decimal-at t) put-decimal.Post
+put-decimal-add-put-2 t c = omega arith
+
+-- src/line.rt:46:9
+put-decimal-put-requires-2 : (t : ℕ) → put-decimal-lts.Need-put-requires-2 (
+  put-reads.Asked,
+  put-reads.Learnt,
+  put-decimal-below t,
+  put-decimal.Post,
+) (put-decimal-at t) put-decimal.Post
+put-decimal-put-requires-2 t c κs =
+    let v = c .before .before .before .before .before .before .before .args .value in
+    let p = c .before .before .before .put-decimal .ensures in
+    omega (arith, p .next-is, put-length p, length-more v (omega arith) (omega arith))
+
+-- src/line.rt:38:1
+put-decimal-same-length : (t : ℕ) → put-decimal-lts.Need-same-length (
+  put-reads.Asked,
+  put-reads.Learnt,
+  put-decimal-below t,
+  put-decimal.Post,
+) (put-decimal-at t) put-decimal.Post
+put-decimal-same-length t c = put-length (c .before .before .put .ensures)
+
+-- src/line.rt:38:1
+put-decimal-returns : (t : ℕ) → put-decimal-lts.Need-returns (
+  put-reads.Asked,
+  put-reads.Learnt,
+  put-decimal-below t,
+  put-decimal.Post,
+) (put-decimal-at t) put-decimal.Post
+put-decimal-returns t c = rw (decimal-one (c .before .before .before .before .before .before .args .value) (omega arith)) (c .before .before .put .ensures)
+
+-- src/line.rt:38:1
+put-decimal-same-length-2 : (t : ℕ) → put-decimal-lts.Need-same-length-2 (
+  put-reads.Asked,
+  put-reads.Learnt,
+  put-decimal-below t,
+  put-decimal.Post,
+) (put-decimal-at t) put-decimal.Post
+put-decimal-same-length-2 t c = put-length (c .before .before .put2 .ensures) ∙ put-length (c .before .before .before .before .before .before .put-decimal .ensures)
+
+-- src/line.rt:38:1
+put-decimal-returns-2 : (t : ℕ) → put-decimal-lts.Need-returns-2 (
+  put-reads.Asked,
+  put-reads.Learnt,
+  put-decimal-below t,
+  put-decimal.Post,
+) (put-decimal-at t) put-decimal.Post
+put-decimal-returns-2 t c =
+    let v = c .before .before .before .before .before .before .before .before .before .before .args .value in
+    rw (decimal-more v (omega arith) (omega arith)) (put-then (c .before .before .before .before .before .before .put-decimal .ensures) (c .before .before .put2 .ensures))
+
+pub +put-decimal-spec : {M : Type 1} → statement M
++put-decimal-spec = close μ-put-decimal λ t. put-decimal-lts.spec (
+  put-reads.Asked,
+  put-reads.Learnt,
+  put-decimal-below t,
+  put-decimal.Post,
+)
+    (put-decimal-at t)
+    put-decimal.Post
+    (put-decimal-cast-put t)
+    (put-decimal-add-put t)
+    (put-decimal-put-requires t)
+    (put-decimal-put-decimal-requires t)
+    (put-decimal-cast-put-2 t)
+    (put-decimal-add-put-2 t)
+    (put-decimal-put-requires-2 t)
+    (put-decimal-same-length t)
+    (put-decimal-returns t)
+    (put-decimal-same-length-2 t)
+    (put-decimal-returns-2 t)

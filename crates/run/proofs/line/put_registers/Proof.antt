@@ -1,0 +1,161 @@
+use Rattle.run.specs.CampaignFile.{flagsOf}
+use mathlib.Core.Path.{_∙_}
+use mathlib.Core.List.{[], _∷_, _++_}
+use lib.ListN.{drop}
+use Rattle.run.specs.Line.{space, hexOf, registerFields, Put}
+use native.Mathlib.Omega.{arith}
+use Rattle.run.proofs.PrintedLine.{put-none, put-cons, put-length, hex-next}
+use borrow.Author.Needs.{needs}
+use Rattle.run.proofs.line.put_registers.Statement.{statement}
+use Rattle.run.proofs.line.put_registers.Tie as tie
+use Rattle.run.proofs.line.put_registers.Reads as reads
+use Rattle.run.proofs.line.put_registers.Lts as lts
+use Rattle.run.proofs.line.flags_of.Reads as flags-of-reads
+use Rattle.run.proofs.line.hex.Reads as hex-reads
+
+-- src/line.rt:112:32
+cast-hex : tie.Need-cast-hex
+cast-hex c = search needs
+
+-- src/line.rt:112:9
+hex-requires : tie.Need-hex-requires
+hex-requires c κs = search needs
+
+-- src/line.rt:113:34
+cast-hex-2 : tie.Need-cast-hex-2
+cast-hex-2 c = search needs
+
+-- src/line.rt:113:9
+hex-requires-2 : tie.Need-hex-requires-2
+hex-requires-2 c κs =
+    let a = c .before .before .before .before .before .before .before .before .args .cpu in
+    let p1 = c .before .before .before .before .hex .ensures in
+    omega (arith, hex-next 2 (a .a) p1, put-length p1)
+
+-- src/line.rt:114:9
+hex-requires-3 : tie.Need-hex-requires-3
+hex-requires-3 c κs =
+    let a = c .before .before .before .before .before .before .before .before .before .before .before .before .args .cpu in
+    let p1 = c .before .before .before .before .before .before .before .before .hex .ensures in
+    let p2 = c .before .before .before .hex2 .ensures in
+    omega (arith, hex-next 2 (a .a) p1, put-length p1, hex-next 2 (a .t) p2, put-length p2)
+
+-- src/line.rt:115:9
+hex-requires-4 : tie.Need-hex-requires-4
+hex-requires-4 c κs =
+    let a = c .before .before .before .before .before .before .before .before .before .before .before .before .before .before .before .before .args .cpu in
+    let p1 = c .before .before .before .before .before .before .before .before .before .before .before .before .hex .ensures in
+    let p2 = c .before .before .before .before .before .before .before .hex2 .ensures in
+    let p3 = c .before .before .before .hex3 .ensures in
+    omega (arith, hex-next 2 (a .a) p1, put-length p1, hex-next 2 (a .t) p2, put-length p2, hex-next 4 (a .x) p3, put-length p3)
+
+-- src/line.rt:116:9
+hex-requires-5 : tie.Need-hex-requires-5
+hex-requires-5 c κs =
+    let a = c .before .before .before .before .before .before .before .before .before .before .before .before .before .before .before .before .before .before .before .before .args .cpu in
+    let p1 = c .before .before .before .before .before .before .before .before .before .before .before .before .before .before .before .before .hex .ensures in
+    let p2 = c .before .before .before .before .before .before .before .before .before .before .before .hex2 .ensures in
+    let p3 = c .before .before .before .before .before .before .before .hex3 .ensures in
+    let p4 = c .before .before .before .hex4 .ensures in
+    omega (arith, hex-next 2 (a .a) p1, put-length p1, hex-next 2 (a .t) p2, put-length p2, hex-next 4 (a .x) p3, put-length p3, hex-next 4 (a .y) p4, put-length p4)
+
+-- src/line.rt:117:9
+hex-requires-6 : tie.Need-hex-requires-6
+hex-requires-6 c κs =
+    let a = c .before .before .before .before .before .before .before .before .before .before .before .before .before .before .before .before .before .before .before .before .before .before .before .before .args .cpu in
+    let p1 = c .before .before .before .before .before .before .before .before .before .before .before .before .before .before .before .before .before .before .before .before .hex .ensures in
+    let p2 = c .before .before .before .before .before .before .before .before .before .before .before .before .before .before .before .hex2 .ensures in
+    let p3 = c .before .before .before .before .before .before .before .before .before .before .before .hex3 .ensures in
+    let p4 = c .before .before .before .before .before .before .before .hex4 .ensures in
+    let p5 = c .before .before .before .hex5 .ensures in
+    omega (arith, hex-next 2 (a .a) p1, put-length p1, hex-next 2 (a .t) p2, put-length p2, hex-next 4 (a .x) p3, put-length p3, hex-next 4 (a .y) p4, put-length p4, hex-next 4 (a .u) p5, put-length p5)
+
+-- src/line.rt:118:9
+hex-requires-7 : tie.Need-hex-requires-7
+hex-requires-7 c κs =
+    let a = c .before .before .before .before .before .before .before .before .before .before .before .before .before .before .before .before .before .before .before .before .before .before .before .before .before .before .before .before .args .cpu in
+    let p1 = c .before .before .before .before .before .before .before .before .before .before .before .before .before .before .before .before .before .before .before .before .before .before .before .before .hex .ensures in
+    let p2 = c .before .before .before .before .before .before .before .before .before .before .before .before .before .before .before .before .before .before .before .hex2 .ensures in
+    let p3 = c .before .before .before .before .before .before .before .before .before .before .before .before .before .before .before .hex3 .ensures in
+    let p4 = c .before .before .before .before .before .before .before .before .before .before .before .hex4 .ensures in
+    let p5 = c .before .before .before .before .before .before .before .hex5 .ensures in
+    let p6 = c .before .before .before .hex6 .ensures in
+    omega (arith, c .before .before .before .before .before .before .before .before .before .before .before .before .before .before .before .before .before .before .before .before .before .before .before .before .before .before .before .before .pre, hex-next 2 (a .a) p1, put-length p1, hex-next 2 (a .t) p2, put-length p2, hex-next 4 (a .x) p3, put-length p3, hex-next 4 (a .y) p4, put-length p4, hex-next 4 (a .u) p5, put-length p5, hex-next 4 (a .s) p6, put-length p6)
+
+-- src/line.rt:119:9
+hex-requires-8 : tie.Need-hex-requires-8
+hex-requires-8 c κs =
+    let a = c .before .before .before .before .before .before .before .before .before .before .before .before .before .before .before .before .before .before .before .before .before .before .before .before .before .before .before .before .before .before .before .before .args .cpu in
+    let p1 = c .before .before .before .before .before .before .before .before .before .before .before .before .before .before .before .before .before .before .before .before .before .before .before .before .before .before .before .before .hex .ensures in
+    let p2 = c .before .before .before .before .before .before .before .before .before .before .before .before .before .before .before .before .before .before .before .before .before .before .before .hex2 .ensures in
+    let p3 = c .before .before .before .before .before .before .before .before .before .before .before .before .before .before .before .before .before .before .before .hex3 .ensures in
+    let p4 = c .before .before .before .before .before .before .before .before .before .before .before .before .before .before .before .hex4 .ensures in
+    let p5 = c .before .before .before .before .before .before .before .before .before .before .before .hex5 .ensures in
+    let p6 = c .before .before .before .before .before .before .before .hex6 .ensures in
+    let p7 = c .before .before .before .hex7 .ensures in
+    omega (arith, c .before .before .before .before .before .before .before .before .before .before .before .before .before .before .before .before .before .before .before .before .before .before .before .before .before .before .before .before .before .before .before .before .pre, hex-next 2 (a .a) p1, put-length p1, hex-next 2 (a .t) p2, put-length p2, hex-next 4 (a .x) p3, put-length p3, hex-next 4 (a .y) p4, put-length p4, hex-next 4 (a .u) p5, put-length p5, hex-next 4 (a .s) p6, put-length p6, hex-next 4 (a .p) p7, put-length p7)
+
+-- src/line.rt:120:9
+flags-of-requires : tie.Need-flags-of-requires
+flags-of-requires c κs = search needs
+
+-- src/line.rt:121:5
+hex-requires-9 : tie.Need-hex-requires-9
+hex-requires-9 c κs =
+    let a = c .before .before .before .before .before .before .before .before .before .before .before .before .before .before .before .before .before .before .before .before .before .before .before .before .before .before .before .before .before .before .before .before .before .before .before .before .before .args .cpu in
+    let p1 = c .before .before .before .before .before .before .before .before .before .before .before .before .before .before .before .before .before .before .before .before .before .before .before .before .before .before .before .before .before .before .before .before .before .hex .ensures in
+    let p2 = c .before .before .before .before .before .before .before .before .before .before .before .before .before .before .before .before .before .before .before .before .before .before .before .before .before .before .before .before .hex2 .ensures in
+    let p3 = c .before .before .before .before .before .before .before .before .before .before .before .before .before .before .before .before .before .before .before .before .before .before .before .before .hex3 .ensures in
+    let p4 = c .before .before .before .before .before .before .before .before .before .before .before .before .before .before .before .before .before .before .before .before .hex4 .ensures in
+    let p5 = c .before .before .before .before .before .before .before .before .before .before .before .before .before .before .before .before .hex5 .ensures in
+    let p6 = c .before .before .before .before .before .before .before .before .before .before .before .before .hex6 .ensures in
+    let p7 = c .before .before .before .before .before .before .before .before .hex7 .ensures in
+    let p8 = c .before .before .before .before .hex8 .ensures in
+    omega (arith, c .before .before .before .before .before .before .before .before .before .before .before .before .before .before .before .before .before .before .before .before .before .before .before .before .before .before .before .before .before .before .before .before .before .before .before .before .before .pre, hex-next 2 (a .a) p1, put-length p1, hex-next 2 (a .t) p2, put-length p2, hex-next 4 (a .x) p3, put-length p3, hex-next 4 (a .y) p4, put-length p4, hex-next 4 (a .u) p5, put-length p5, hex-next 4 (a .s) p6, put-length p6, hex-next 4 (a .p) p7, put-length p7, hex-next 3 (a .tm) p8, put-length p8)
+
+-- src/line.rt:108:1
+same-length : tie.Need-same-length
+same-length c =
+    put-length (c .before .before .hex9 .ensures)
+    ∙ put-length (c .before .before .before .before .before .before .before .hex8 .ensures)
+    ∙ put-length (c .before .before .before .before .before .before .before .before .before .before .before .hex7 .ensures)
+    ∙ put-length (c .before .before .before .before .before .before .before .before .before .before .before .before .before .before .before .hex6 .ensures)
+    ∙ put-length (c .before .before .before .before .before .before .before .before .before .before .before .before .before .before .before .before .before .before .before .hex5 .ensures)
+    ∙ put-length (c .before .before .before .before .before .before .before .before .before .before .before .before .before .before .before .before .before .before .before .before .before .before .before .hex4 .ensures)
+    ∙ put-length (c .before .before .before .before .before .before .before .before .before .before .before .before .before .before .before .before .before .before .before .before .before .before .before .before .before .before .before .hex3 .ensures)
+    ∙ put-length (c .before .before .before .before .before .before .before .before .before .before .before .before .before .before .before .before .before .before .before .before .before .before .before .before .before .before .before .before .before .before .before .hex2 .ensures)
+    ∙ put-length (c .before .before .before .before .before .before .before .before .before .before .before .before .before .before .before .before .before .before .before .before .before .before .before .before .before .before .before .before .before .before .before .before .before .before .before .before .hex .ensures)
+
+-- src/line.rt:108:1
+returns : tie.Need-returns
+returns c =
+    let m = c .before .before .before .before .before .before .before .before .before .before .before .before .before .before .before .before .before .before .before .before .before .before .before .before .before .before .before .before .before .before .before .before .before .before .before .before .before .before .before .before .args .cpu in
+    let flags = rw (c .before .before .before .before .flags-of .ensures) at (c .before .before .hex9 .ensures) in
+    put-cons (hexOf 2 (m .a)) (drop 1 (registerFields m)) (c .before .before .before .before .before .before .before .before .before .before .before .before .before .before .before .before .before .before .before .before .before .before .before .before .before .before .before .before .before .before .before .before .before .before .before .before .hex .ensures)
+    (put-cons (hexOf 2 (m .t)) (drop 2 (registerFields m)) (c .before .before .before .before .before .before .before .before .before .before .before .before .before .before .before .before .before .before .before .before .before .before .before .before .before .before .before .before .before .before .before .hex2 .ensures)
+    (put-cons (hexOf 4 (m .x)) (drop 3 (registerFields m)) (c .before .before .before .before .before .before .before .before .before .before .before .before .before .before .before .before .before .before .before .before .before .before .before .before .before .before .before .hex3 .ensures)
+    (put-cons (hexOf 4 (m .y)) (drop 4 (registerFields m)) (c .before .before .before .before .before .before .before .before .before .before .before .before .before .before .before .before .before .before .before .before .before .before .before .hex4 .ensures)
+    (put-cons (hexOf 4 (m .u)) (drop 5 (registerFields m)) (c .before .before .before .before .before .before .before .before .before .before .before .before .before .before .before .before .before .before .before .hex5 .ensures)
+    (put-cons (hexOf 4 (m .s)) (drop 6 (registerFields m)) (c .before .before .before .before .before .before .before .before .before .before .before .before .before .before .before .hex6 .ensures)
+    (put-cons (hexOf 4 (m .p)) (drop 7 (registerFields m)) (c .before .before .before .before .before .before .before .before .before .before .before .hex7 .ensures)
+    (put-cons (hexOf 3 (m .tm)) (drop 8 (registerFields m)) (c .before .before .before .before .before .before .before .hex8 .ensures)
+    (put-cons (hexOf 3 (flagsOf m)) [] flags (put-none _ _)))))))))
+
+pub put-registers-spec : {M : Type 1} → statement M
+put-registers-spec =
+    tie.close
+    (tie.spec
+    cast-hex
+    hex-requires
+    cast-hex-2
+    hex-requires-2
+    hex-requires-3
+    hex-requires-4
+    hex-requires-5
+    hex-requires-6
+    hex-requires-7
+    hex-requires-8
+    flags-of-requires
+    hex-requires-9
+    same-length
+    returns)

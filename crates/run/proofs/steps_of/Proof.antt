@@ -1,0 +1,80 @@
+use Prim.Native.Nat.{_-_}
+use mathlib.Core.Path.{refl, _∙_}
+use native.Mathlib.Omega.{arith}
+use borrow.Author.Needs.{needs}
+use Rattle.run.proofs.Loop.{Kept, at-start, go-on, stop-at, at-limit}
+use Rattle.run.proofs.steps_of.Statement.{statement}
+use Rattle.run.proofs.steps_of.Tie as tie
+
+abbrev Inv-loop : tie.InvT-loop
+Inv-loop page0₀ page1₀ keyboard limit first current₀ steps₀ page0 page1 current steps = Kept keyboard limit current₀ page0₀ page1₀ steps current page0 page1
+
+abbrev μ-loop : tie.MeasureT-loop
+μ-loop page0₀ page1₀ keyboard limit first current₀ steps₀ page0 page1 current steps = limit - steps
+
+loop-holds : tie.Need-loop-holds Inv-loop μ-loop
+loop-holds c = record { long0 = refl; long1 = refl; going = at-start _ _ _ _ (c .before .before .pre .0) }
+
+step-cpu-requires : tie.Need-step-cpu-requires Inv-loop μ-loop
+step-cpu-requires c κs = c .before .before .before .loop .inv .going .small
+
+enum-known-outcome : tie.Need-enum-known-outcome Inv-loop μ-loop
+enum-known-outcome c = search needs
+
+add-steps : tie.Need-add-steps Inv-loop μ-loop
+add-steps c = omega arith
+
+loop-less : tie.Need-loop-less Inv-loop μ-loop
+loop-less c = omega arith
+
+loop-again : tie.Need-loop-again Inv-loop μ-loop
+loop-again c = record { long0 = c .before .before .before .before .before .before .before .step-cpu .kept .1 .0 ∙ c .before .before .before .before .before .before .before .before .before .before .before .loop .inv .long0; long1 = c .before .before .before .before .before .before .before .step-cpu .kept .1 .1 .0 ∙ c .before .before .before .before .before .before .before .before .before .before .before .loop .inv .long1; going = go-on (c .before .before .before .before .before .before .before .before .before .before .before .loop .inv .going) (c .before .before .before .before .before .before .before .before .before .before .loop-test .taken) (rw (c .before .outcome .given .1) at (c .before .before .before .before .before .before .before .step-cpu .ensures)) }
+
+enum-known-outcome-2 : tie.Need-enum-known-outcome-2 Inv-loop μ-loop
+enum-known-outcome-2 c = search needs
+
+answered-requires : tie.Need-answered-requires Inv-loop μ-loop
+answered-requires c κs = search needs
+
+same-length : tie.Need-same-length Inv-loop μ-loop
+same-length c = c .before .before .before .before .before .before .before .before .step-cpu .kept .1 .0 ∙ c .before .before .before .before .before .before .before .before .before .before .before .before .loop .inv .long0
+
+same-length-2 : tie.Need-same-length-2 Inv-loop μ-loop
+same-length-2 c = c .before .before .before .before .before .before .before .before .step-cpu .kept .1 .1 .0 ∙ c .before .before .before .before .before .before .before .before .before .before .before .before .loop .inv .long1
+
+returns : tie.Need-returns Inv-loop μ-loop
+returns c = rw (c .answered .ensures) (stop-at (c .before .before .before .before .before .before .before .before .before .before .before .before .loop .inv .going) (c .before .before .before .before .before .before .before .before .before .before .before .loop-test .taken) (c .before .before .before .before .before .before .before .before .before .before .before .before .before .before .before .pre .1) (rw (c .before .before .outcome2 .given .1) at (c .before .before .before .before .before .before .before .before .step-cpu .ensures)))
+
+answered-requires-2 : tie.Need-answered-requires-2 Inv-loop μ-loop
+answered-requires-2 c κs = search needs
+
+same-length-3 : tie.Need-same-length-3 Inv-loop μ-loop
+same-length-3 c = c .before .before .loop .inv .long0
+
+same-length-4 : tie.Need-same-length-4 Inv-loop μ-loop
+same-length-4 c = c .before .before .loop .inv .long1
+
+returns-2 : tie.Need-returns-2 Inv-loop μ-loop
+returns-2 c = rw (c .answered2 .ensures) (at-limit (c .before .before .loop .inv .going) (c .before .loop-test .left) (c .before .before .before .before .before .pre .1))
+
+pub steps-of-spec : {M : Type 1} → statement M
+steps-of-spec =
+    tie.close
+    (tie.spec
+    Inv-loop
+    μ-loop
+    loop-holds
+    step-cpu-requires
+    enum-known-outcome
+    add-steps
+    loop-less
+    loop-again
+    enum-known-outcome-2
+    answered-requires
+    same-length
+    same-length-2
+    returns
+    answered-requires-2
+    same-length-3
+    same-length-4
+    returns-2)

@@ -1,0 +1,144 @@
+/*
+ * lh5801.h: the one entry of the static library liblh5801.a, the instruction unit of the LH5801.
+ *
+ * "Document 01" is the requirement that the unit is proved against; the numbers below are its own.
+ * `rt staticlib lh5801` at the repository's top writes target/staticlib/liblh5801.a for x86-64.
+ * Usable from C (C99 and later) and C++.
+ *
+ *   cc -I include program.c target/staticlib/liblh5801.a
+ *
+ * The record
+ *
+ * The record passes in sixteen words of 64 bits. Words 0 to 11 go in and come back, words 12 to 15
+ * only come back: what they hold before the call is not looked at.
+ *
+ *   word  0  LH5801_A          accumulator, 8 bits
+ *         1  LH5801_T          status, 8 bits: C 01, IE 02, Z 04, V 08, H 10
+ *         2  LH5801_X          16 bits
+ *         3  LH5801_Y          16 bits
+ *         4  LH5801_U          16 bits
+ *         5  LH5801_S          stack pointer, 16 bits
+ *         6  LH5801_P          program counter, 16 bits
+ *         7  LH5801_TM         timer value, 16 bits; a value above 511 is answered with 3
+ *         8  LH5801_FLAGS      9 bits, LH5801_HALTED to LH5801_TIMER_REACHED below
+ *         9  LH5801_TIMER      timer states, 64 bits
+ *        10  LH5801_PREVIOUS   timer states at the timer's last shift, 64 bits
+ *        11  LH5801_TICKS      ticks, 64 bits
+ *        12  LH5801_NUMBER     why the call ended, 0 to 7
+ *        13  LH5801_BYTE       the unlisted byte where the number is 5 or 6, else 0
+ *        14  LH5801_STEPS      completed steps
+ *        15  LH5801_STATES     the sum of their states
+ *
+ * A word above its field's width counts modulo the width: A and T modulo 256, X, Y, U, S, P and TM
+ * modulo 65,536; of the flags the nine lowest bits count. What comes back is never above the width.
+ * So TM 65,536 is 0 and is accepted, and TM 512 is 512 and is answered with 3.
+ *
+ * The pages
+ *
+ * Page 0 is addressed 0 to FFFF, page 1 (ME1) 10000 to 1FFFF. Each passes as a pointer to its first
+ * byte and its length. A page may be shorter than 65,536 bytes, or empty: an address past its end
+ * reads FF, and a write there is dropped. For an empty page pass the length 0 and any pointer that
+ * is not null; nothing is read or written through it. A page longer than 65,536 bytes is answered
+ * with 1 or 2, and is not touched.
+ *
+ * What the caller has to see to
+ *
+ * - No pointer is null. `words` is aligned as uint64_t is; the pages need no alignment.
+ * - Each page has at least its length in bytes, all of them initialised.
+ * - The sixteen words and the two pages do not overlap, and nobody else touches them during the
+ *   call.
+ *
+ * There is no other condition: every record, every length, every limit and every page is answered,
+ * and every call ends.
+ *
+ * What is returned
+ *
+ *   number  condition, looked for in this order
+ *     1     page 0 is longer than 65,536 bytes
+ *     2     page 1 is longer than 65,536 bytes
+ *     3     TM is above 511
+ *     4     the limit is 0 or above 1,000,000
+ *   then in each step
+ *     7     after interrupts: BF is set, the unit is halted, IR0 is clear, no interrupt is accepted
+ *     5     the opcode read is unlisted
+ *     6     the byte after FD is unlisted
+ *   and
+ *     0     all the steps asked for were done
+ *
+ * With 1 to 4 the record comes back as given (within its widths), steps and states are 0 and the
+ * pages are untouched. With 5, 6 and 7 the record and the pages are as they were before the step
+ * that stopped, and steps and states are those of the completed steps. FD 00 stops with 6 and the
+ * byte 0, so a byte of 0 does not mean that there was none.
+ *
+ * The library has no global data, allocates nothing, calls nothing outside itself and keeps nothing
+ * between calls. Calls on different words and pages may run at the same time on different threads.
+ * A run may be cut into calls: pass the words that came back.
+ */
+#ifndef LH5801_H
+#define LH5801_H
+
+#include <stddef.h>
+#include <stdint.h>
+
+#ifdef __cplusplus
+extern "C" {
+#endif
+
+/* Places of the words. */
+enum {
+    LH5801_A,
+    LH5801_T,
+    LH5801_X,
+    LH5801_Y,
+    LH5801_U,
+    LH5801_S,
+    LH5801_P,
+    LH5801_TM,
+    LH5801_FLAGS,
+    LH5801_TIMER,
+    LH5801_PREVIOUS,
+    LH5801_TICKS,
+    LH5801_NUMBER,
+    LH5801_BYTE,
+    LH5801_STEPS,
+    LH5801_STATES,
+    LH5801_WORDS
+};
+
+/* Bits of LH5801_FLAGS. */
+enum {
+    LH5801_HALTED = 1,
+    LH5801_PU = 2,
+    LH5801_PV = 4,
+    LH5801_BF = 8,
+    LH5801_DISP = 16,
+    LH5801_IR0 = 32,
+    LH5801_IR1 = 64,
+    LH5801_IR2 = 128,
+    LH5801_TIMER_REACHED = 256
+};
+
+/* Values of LH5801_NUMBER. */
+enum {
+    LH5801_ALL_STEPS = 0,
+    LH5801_PAGE0_TOO_LONG = 1,
+    LH5801_PAGE1_TOO_LONG = 2,
+    LH5801_TIMER_VALUE = 3,
+    LH5801_LIMIT = 4,
+    LH5801_UNLISTED = 5,
+    LH5801_UNLISTED_AFTER_FD = 6,
+    LH5801_STOPPED_HALTED = 7
+};
+
+/*
+ * Runs the unit for at most `limit` steps (1 to 1,000,000) from the record in `words`, over the two
+ * pages. `keyboard` is the byte that ITA (FD BA) reads.
+ */
+void lh5801_run(uint64_t words[16], uint8_t *page0, size_t length0, uint8_t *page1, size_t length1,
+                uint8_t keyboard, uint32_t limit);
+
+#ifdef __cplusplus
+}
+#endif
+
+#endif

@@ -1,0 +1,446 @@
+//! Many steps of random programs, the original against the port, compared after every call.
+//!
+//! The work is cut into sessions. A session has two pages of its own, the same on both sides, and
+//! starts the unit on them again and again; between two calls the record is sometimes changed, as
+//! a host may do. Every session depends on the seed and its own index only.
+
+#![forbid(unsafe_code)]
+
+use std::panic::{catch_unwind, AssertUnwindSafe};
+use std::sync::atomic::{AtomicBool, AtomicU64, Ordering};
+use std::thread;
+use std::time::{Duration, Instant};
+
+use bare::{Lh5801, Pc1500, Told, Watch};
+
+use crate::call::{Call, Record, Side};
+use crate::compare::{self, report_smallest, slices, Comparison};
+use crate::opcodes::table;
+use crate::original::Original;
+use crate::port::{self, Port};
+use crate::progress::Progress;
+use crate::random::{self, Random};
+use crate::shrink;
+
+/// How often each listed byte has to be executed in a run of 100 million steps.
+const LEAST: u64 = 10_000;
+/// Steps after which a session ends.
+const SESSION: u64 = 30_000;
+/// Every so many sessions, the calls run through the original's own panics too.
+const SAMPLE: u64 = 8;
+/// The greatest limit of such a call: its accesses are logged.
+const SAMPLE_LIMIT: u32 = 20_000;
+
+pub struct Settings {
+    pub steps: u64,
+    pub seed: u64,
+    pub threads: u64,
+}
+
+/// What the calls have reached.
+#[derive(Clone)]
+struct Counts {
+    calls: u64,
+    steps: u64,
+    sampled: u64,
+    stops: [u64; 8],
+    executed: [[u64; 256]; 2],
+    unlisted: [[u64; 256]; 2],
+    off: u64,
+    frozen: u64,
+    entries: u64,
+    code_edges: u64,
+    stack_edges: u64,
+    /// Calls by the lengths of the pages: empty, whole, between.
+    lengths: [[u64; 3]; 2],
+    /// Calls by their completed steps: 0, 1, to 20, to 1,000, more.
+    sizes: [u64; 5],
+}
+
+impl Counts {
+    fn new() -> Counts {
+        Counts {
+            calls: 0,
+            steps: 0,
+            sampled: 0,
+            stops: [0; 8],
+            executed: [[0; 256]; 2],
+            unlisted: [[0; 256]; 2],
+            off: 0,
+            frozen: 0,
+            entries: 0,
+            code_edges: 0,
+            stack_edges: 0,
+            lengths: [[0; 3]; 2],
+            sizes: [0; 5],
+        }
+    }
+
+    fn call(&mut self, record: &Record, told: &Told, lengths: [usize; 2]) {
+        self.calls += 1;
+        self.steps += told.steps;
+        self.stops[usize::from(told.number)] += 1;
+        if let 5 | 6 = told.number {
+            self.unlisted[usize::from(told.number - 5)][usize::from(told.byte)] += 1;
+        }
+        self.code_edges += u64::from(at_edge(record.p, lengths[0]));
+        self.stack_edges += u64::from(at_edge(record.s, lengths[0]));
+        for (counts, length) in self.lengths.iter_mut().zip(lengths) {
+            counts[[0, 65_536].iter().position(|edge| length == *edge).unwrap_or(2)] += 1;
+        }
+        self.sizes[[0, 1, 20, 1000].iter().filter(|most| told.steps > **most).count()] += 1;
+    }
+
+    /// Steps with BF set and IR0 clear: an instruction or an interrupt.
+    fn busy(&self) -> u64 {
+        self.steps - self.off - self.frozen
+    }
+
+    fn join(&mut self, other: &Counts) {
+        fn add(left: &mut [u64], right: &[u64]) {
+            left.iter_mut().zip(right).for_each(|(left, right)| *left += right);
+        }
+        self.calls += other.calls;
+        self.steps += other.steps;
+        self.sampled += other.sampled;
+        self.off += other.off;
+        self.frozen += other.frozen;
+        self.entries += other.entries;
+        self.code_edges += other.code_edges;
+        self.stack_edges += other.stack_edges;
+        add(&mut self.stops, &other.stops);
+        add(&mut self.sizes, &other.sizes);
+        for page in 0..2 {
+            add(&mut self.executed[page], &other.executed[page]);
+            add(&mut self.unlisted[page], &other.unlisted[page]);
+            add(&mut self.lengths[page], &other.lengths[page]);
+        }
+    }
+
+    /// The listed byte of a page that was executed least often, and how often.
+    fn rarest(&self, page: usize) -> (usize, u64) {
+        let listed = (0..256).filter(|byte| table()[page][*byte].is_some());
+        let counted = listed.map(|byte| (byte, self.executed[page][byte]));
+        counted.min_by_key(|(_, count)| *count).unwrap_or((0, 0))
+    }
+
+    fn print(&self) {
+        let list = |counts: &[u64]| {
+            let pairs = counts.iter().enumerate();
+            pairs.map(|(i, count)| format!("{i}: {count}")).collect::<Vec<_>>().join(" ")
+        };
+        println!("stops: {}", list(&self.stops));
+        let [none, one, few, many, more] = self.sizes;
+        println!(
+            "calls by completed steps: none {none}, one {one}, to 20 {few}, to 1,000 {many}, \
+             above {more}; through the original's panics too: {}",
+            self.sampled
+        );
+        println!(
+            "steps with an interrupt {}, with BF clear {}, with IR0 set {}",
+            self.entries, self.off, self.frozen
+        );
+        for (page, [empty, whole, between]) in self.lengths.iter().enumerate() {
+            println!("calls by page {page}: empty {empty}, whole {whole}, between {between}");
+        }
+        println!(
+            "calls that begin within 8 bytes of an edge: code {}, stack {}",
+            self.code_edges, self.stack_edges
+        );
+        for (page, name) in ["first page", "after FD"].into_iter().enumerate() {
+            let reached = |counts: &[u64; 256]| counts.iter().filter(|count| **count > 0).count();
+            let (rarest, times) = self.rarest(page);
+            let listed = table()[page].iter().flatten().count();
+            println!(
+                "{name}: {} of {listed} listed opcodes executed, rarest {rarest:02X} with {times} \
+                 times; {} of {} unlisted met",
+                reached(&self.executed[page]),
+                reached(&self.unlisted[page]),
+                256 - listed
+            );
+        }
+    }
+}
+
+/// Within 8 bytes of 0 (or FFFF) or of the page's end.
+fn at_edge(address: u16, length: usize) -> bool {
+    let near = |edge: u16| address.wrapping_sub(edge).wrapping_add(8) <= 16;
+    near(0) || near(length as u16)
+}
+
+impl Watch for Counts {
+    fn off(&mut self) {
+        self.off += 1;
+    }
+    fn frozen(&mut self) {
+        self.frozen += 1;
+    }
+    fn entry(&mut self) {
+        self.entries += 1;
+    }
+    fn executed(&mut self, page: usize, byte: u8) {
+        self.executed[page][usize::from(byte)] += 1;
+    }
+}
+
+/// Why a session ended early.
+enum Ended {
+    /// The call with this number differs, and how.
+    Differs(u64, String),
+    /// The call that was asked for.
+    Reached(Box<Call>),
+}
+
+struct Session<'a> {
+    random: Random,
+    counts: &'a mut Counts,
+    /// The original's machine, with the pages of its side.
+    machine: Pc1500,
+    /// The port's pages.
+    pages: [Vec<u8>; 2],
+    lengths: [usize; 2],
+    record: Record,
+    /// Calls and steps of this session.
+    calls: u64,
+    steps: u64,
+    /// Calls run through the original's panics too.
+    sampled: bool,
+    /// The number of the call that is wanted, in place of a comparison.
+    wanted: Option<u64>,
+}
+
+impl Session<'_> {
+    fn new(seed: u64, index: u64, counts: &mut Counts, wanted: Option<u64>) -> Session<'_> {
+        let mut random = Random::new(seed, index);
+        let pages = random::world(&mut random);
+        let lengths = [pages[0].len(), pages[1].len()];
+        Session {
+            machine: Pc1500::new(&Record::default(), random.byte(), pages.clone()),
+            random,
+            counts,
+            pages,
+            lengths,
+            record: Record::default(),
+            calls: 0,
+            steps: 0,
+            sampled: index.is_multiple_of(SAMPLE),
+            wanted,
+        }
+    }
+
+    /// Starts the unit again and again, until enough steps were made.
+    fn run(&mut self) -> Result<(), Ended> {
+        let starts = 10 + self.random.below(190);
+        for _ in 0..starts {
+            self.start();
+            while self.steps < SESSION && self.next()? {
+                self.change();
+            }
+        }
+        Ok(())
+    }
+
+    /// A new record, and often a program where it begins.
+    fn start(&mut self) {
+        self.record = random::record(&mut self.random, self.lengths);
+        if self.random.chance(60) {
+            let size = self.random.pick(&[8, 40, 200]);
+            let p = self.record.p;
+            let mut code = random::program(&mut self.random, size, self.lengths, p);
+            // HLT and OFF end a run, so no run meets many of them.
+            match self.random.below(40) {
+                0..=2 => code.splice(0..0, [0xFD, 0xB1]).for_each(drop),
+                3 => code.splice(0..0, [0xFD, 0x4C]).for_each(drop),
+                _ => {}
+            }
+            random::place(&mut self.pages[0], p, &code);
+            random::place(&mut self.machine.page0, p, &code);
+        }
+    }
+
+    /// One call; false where it stopped.
+    fn next(&mut self) -> Result<bool, Ended> {
+        let quiet = !self.record.bf || self.record.ir0;
+        let limit = if quiet { 1 + self.random.below(40) as u32 } else { limit(&mut self.random) };
+        if self.wanted == Some(self.calls) {
+            return Err(Ended::Reached(Box::new(self.call(limit))));
+        }
+        let told = self.compare(limit).map_err(|how| Ended::Differs(self.calls, how))?;
+        self.calls += 1;
+        self.steps += told.steps;
+        self.record = self.machine.lh5801.record();
+        Ok(told.number == 0)
+    }
+
+    /// The call that comes next, with its own pages.
+    fn call(&self, limit: u32) -> Call {
+        let keyboard = self.machine.keyboard.byte;
+        Call { record: self.record, keyboard, limit, pages: self.pages.clone() }
+    }
+
+    /// Runs a call on both sides; tells the first difference.
+    fn compare(&mut self, limit: u32) -> Result<Told, String> {
+        let sampled = self.sampled && limit <= SAMPLE_LIMIT;
+        let whole = sampled.then(|| Original.call(&self.call(limit)));
+        self.machine.lh5801 = Lh5801::from_record(&self.record);
+        let told = self.machine.original_run(limit, self.counts);
+        let keyboard = self.machine.keyboard.byte;
+        let port = port::call(&self.record, keyboard, limit, &mut self.pages);
+        let record = self.machine.lh5801.record();
+        if let Some(how) = compare::told_difference(&told, &record, &port) {
+            return Err(how);
+        }
+        let own = [&self.machine.page0[..], &self.machine.page1[..]];
+        if let Some(how) = compare::pages_difference(own, slices(&self.pages)) {
+            return Err(how);
+        }
+        if let Some(whole) = whole {
+            self.counts.sampled += 1;
+            let told = compare::told_difference(&told, &record, &whole);
+            let pages = compare::pages_difference(own, slices(&whole.pages));
+            if let Some(how) = told.or(pages) {
+                return Err(format!("the original without and with its panics: {how}"));
+            }
+        }
+        self.counts.call(&self.record, &told, self.lengths);
+        Ok(told)
+    }
+
+    /// Between two calls: sometimes another record.
+    fn change(&mut self) {
+        let quiet = !self.record.bf || self.record.ir0;
+        if quiet && self.random.chance(60) {
+            (self.record.bf, self.record.ir0) = (true, false);
+        }
+        if self.random.chance(25) {
+            random::change(&mut self.random, &mut self.record, self.lengths);
+        }
+    }
+}
+
+/// Many limits: one step, few, hundreds, thousands; now and then one that is refused.
+fn limit(random: &mut Random) -> u32 {
+    match random.below(10_000) {
+        0..=9 => random.pick(&[0, 1_000_001, u32::MAX]),
+        10..=3799 => 1,
+        3800..=7599 => 2 + random.below(19) as u32,
+        7600..=9699 => 21 + random.below(180) as u32,
+        9700..=9989 => 1000 + random.below(3000) as u32,
+        9990..=9998 => 10_000 + random.below(30_000) as u32,
+        _ => random.pick(&[100_000, 1_000_000]),
+    }
+}
+
+/// A difference: which session and call, and how.
+struct Found {
+    session: u64,
+    call: u64,
+    how: String,
+}
+
+/// Runs a session. A panic of the original that nothing foretold counts as a difference.
+fn session(seed: u64, index: u64, counts: &mut Counts) -> Option<Found> {
+    let before = counts.calls;
+    let ended = catch_unwind(AssertUnwindSafe(|| Session::new(seed, index, counts, None).run()));
+    match ended {
+        Ok(Err(Ended::Differs(call, how))) => Some(Found { session: index, call, how }),
+        Ok(_) => None,
+        Err(_) => {
+            let call = counts.calls - before;
+            let how = "a panic that was not foretold".to_string();
+            Some(Found { session: index, call, how })
+        }
+    }
+}
+
+/// What the threads share.
+struct Shared {
+    steps: AtomicU64,
+    ended: AtomicBool,
+}
+
+/// The sessions of one thread: every so-manieth, until its share of the steps is made.
+fn work(settings: &Settings, thread: u64, shared: &Shared) -> (Counts, Option<Found>) {
+    let mut counts = Counts::new();
+    let share = settings.steps.div_ceil(settings.threads);
+    let mut index = thread;
+    while counts.busy() < share && !shared.ended.load(Ordering::Relaxed) {
+        let before = counts.busy();
+        if let Some(found) = session(settings.seed, index, &mut counts) {
+            shared.ended.store(true, Ordering::Relaxed);
+            return (counts, Some(found));
+        }
+        shared.steps.fetch_add(counts.busy() - before, Ordering::Relaxed);
+        index += settings.threads;
+    }
+    (counts, None)
+}
+
+/// Shows the progress until every thread has ended.
+fn watch_progress<T>(workers: &[thread::ScopedJoinHandle<'_, T>], total: u64, shared: &Shared) {
+    let mut progress = Progress::new("step", total);
+    while workers.iter().any(|worker| !worker.is_finished()) {
+        thread::sleep(Duration::from_millis(50));
+        progress.show(shared.steps.load(Ordering::Relaxed));
+    }
+    progress.wipe();
+}
+
+fn run_threads(settings: &Settings) -> (Counts, Option<Found>) {
+    let shared = Shared { steps: AtomicU64::new(0), ended: AtomicBool::new(false) };
+    thread::scope(|scope| {
+        let shared = &shared;
+        let spawn = |thread| scope.spawn(move || work(settings, thread, shared));
+        let workers: Vec<_> = (0..settings.threads).map(spawn).collect();
+        watch_progress(&workers, settings.steps, shared);
+        let mut counts = Counts::new();
+        let mut found = None;
+        for worker in workers {
+            let (more, difference) = worker.join().expect("a worker ends");
+            counts.join(&more);
+            found = found.or(difference);
+        }
+        (counts, found)
+    })
+}
+
+/// Runs the differential; true where nothing differs and every opcode came often enough.
+pub fn run(settings: &Settings) -> bool {
+    let Settings { steps, seed, threads } = settings;
+    println!("seed {seed}, {threads} threads, original against port");
+    println!("at least {steps} steps that execute an instruction or accept an interrupt");
+    let begin = Instant::now();
+    let (counts, found) = run_threads(settings);
+    if let Some(found) = found {
+        report(*seed, &found);
+        return false;
+    }
+    counts.print();
+    let seconds = begin.elapsed().as_secs_f64();
+    println!("{} calls, {} steps, 0 differences, {seconds:.1} s", counts.calls, counts.steps);
+    let least = LEAST.min(steps / LEAST);
+    let rarest = (0..2).map(|page| counts.rarest(page).1).min().unwrap_or(0);
+    if rarest < least {
+        println!("an opcode was executed {rarest} times only, less than {least}");
+    }
+    rarest >= least
+}
+
+/// Prints the smallest input for a difference, from the session made once more up to that call.
+fn report(seed: u64, found: &Found) {
+    let Found { session, call, how } = found;
+    println!("session {session}, call {call} differs: {how}; making it smaller");
+    let mut counts = Counts::new();
+    let Err(Ended::Reached(failing)) = Session::new(seed, *session, &mut counts, Some(*call)).run()
+    else {
+        println!("the session does not come to that call again");
+        return;
+    };
+    let mut comparison = Comparison::new(Box::new(Port));
+    if comparison.differs(&failing) {
+        report_smallest(&mut comparison, *failing);
+    } else {
+        println!("the call by itself does not differ:");
+        print!("{}", shrink::describe(&failing));
+    }
+}

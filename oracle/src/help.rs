@@ -1,0 +1,153 @@
+//! What the commands say about themselves.
+
+#![forbid(unsafe_code)]
+
+pub const HELP: &str = "\
+The oracle runs the original lh5801.rs, included unchanged, over a flat memory.
+
+oracle run [FILE]          the original's line for a campaign file
+oracle compare N           N random calls, the original against the model or the port
+oracle differential        100 million steps, the original against the port
+oracle rerun N             N runs through the port, cut into lists of calls on differing pages
+oracle campaign N          N campaign files through the port's program
+oracle speed               the speed of the original and of the port
+oracle once WAY FILE       one run of a campaign file, for an instruction count
+oracle symbols             the functions of the port's archive
+oracle list N              a fixed list of the original's answers, as text
+oracle list --check FILE   such a list, checked
+oracle arithmetic          the arithmetic over all inputs, against libprobe.a
+oracle COMMAND --help      more about a command
+
+Status: 0 where all is well, 1 for a difference, 2 for a fault in the command or its files.
+";
+
+/// How an oracle with the port is built.
+pub const PORT_HELP: &str = "\
+To build it with the port:
+
+  rt staticlib lh5801                    (at the repository's top)
+  cargo build --release --features port  (in oracle/)
+
+The environment variables PORT_LIB_DIR and PORT_LIB_NAME, at building, name another archive than
+../target/staticlib and lh5801.
+";
+
+pub const RUN_HELP: &str = "\
+oracle run [FILE] [--model] [--trace]
+
+Reads a campaign file (document 01, \"Campaign file\") from FILE, or from standard input without
+FILE or with -, at most 33,000 bytes of it, and prints document 01's line from the original.
+
+--model   the line from the model instead
+--trace   each step's accesses on standard error, in the side's own order
+";
+
+pub const COMPARE_HELP: &str = "\
+oracle compare N [--seed S] [--side model]
+
+Runs N random calls on the original and on another side and compares number, byte, steps, states,
+end record and both pages; of the model also the accesses, with the original's vector reads put in
+document 01's order. Prints what was reached. At a difference it prints the smallest failing input
+it finds and ends with status 1.
+
+--seed S      the seed, a decimal number; 1 without it
+--side NAME   the other side, model or port; model without it. port wants the feature `port`
+";
+
+pub const DIFFERENTIAL_HELP: &str = "\
+oracle differential [--steps N] [--seed S] [--threads T]
+
+Runs at least N steps of random programs on the original and on the port, and compares number,
+byte, steps, states, end record and both pages after every call. A part of the calls runs through
+the original's own panics too. Prints what was reached; an opcode that was executed less than
+10,000 times (N / 10,000 times where that is less) ends with status 1. At a difference it prints
+the smallest failing input it finds and ends with status 1. It wants the feature `port`.
+
+--steps N     100,000,000 without it
+--seed S      the seed, a decimal number; 1 without it
+--threads T   2 without it; seed and T together fix the calls that are made
+";
+
+pub const RERUN_HELP: &str = "\
+oracle rerun N [--seed S]
+
+Runs N random runs through the port, each twice: cut into a list of calls on the given pages, and
+cut into another list on pages where every byte has another value that the run does not read before
+it has stored a write there. Compares the final stop and its byte, the end record, the sums of steps
+and states, and both pages: a written byte is what was last written, every other byte its own. What
+is read first and what is written comes from the original's log. At a difference it prints the
+smallest failing input it finds and ends with status 1. It wants the feature `port`.
+
+--seed S   the seed, a decimal number; 1 without it
+";
+
+pub const CAMPAIGN_HELP: &str = "\
+oracle campaign N [--seed S] [--program PATH]
+
+Gives campaign files to the port's program, which is run once for each on two threads, and compares
+what it prints with the line of the oracle's own reader and the original. First some directed files
+(every prefix of two files, every number at its edges, the edges of the pages), then N random ones:
+valid, cut, damaged and without form. At a difference it prints the smallest failing file it finds
+and ends with status 1.
+
+--seed S         the seed, a decimal number; 1 without it
+--program PATH   the program; ../target/bin/campaign without it. It reads standard input
+";
+
+pub const SPEED_HELP: &str = "\
+oracle speed [--rounds N] [--bench DIR]
+
+Measures three ways to do the same work, in interleaved rounds: the original's bare step_cpu loop,
+the original under a run call with its stop checks, and the port. Prints the median with the least
+and the greatest, and the ratios of the medians; above 1 the port is faster. It wants the feature
+`port`.
+
+--rounds N    rounds that count; 15 without it
+--bench DIR   the folder of lop.bin, dca.bin and mixed.bin; ../../shared/bench without it
+";
+
+pub const ONCE_HELP: &str = "\
+oracle once (original|bare|port) FILE
+
+Runs a campaign file exactly once and prints document 01's line: under a run call of the original,
+as bare steps of the original (no stop is looked for), or by the port, which wants the feature
+`port`. For counts of instructions from outside:
+
+  valgrind --tool=callgrind --toggle-collect=lh5801_run oracle once port FILE
+  valgrind --tool=callgrind '--toggle-collect=*bare_steps*' oracle once bare FILE
+  valgrind --tool=callgrind '--toggle-collect=*original_run*' oracle once original FILE
+";
+
+pub const SYMBOLS_HELP: &str = "\
+oracle symbols [ARCHIVE]
+
+Runs nm on the port's archive and checks that lh5801_run is its only function, exported or not.
+Without ARCHIVE it is the one that this oracle was built for.
+";
+
+pub const LIST_HELP: &str = "\
+oracle list N [--seed S] [--out FILE]
+oracle list --check FILE [--model]
+
+Writes a list of the original's answers: the directed calls, then N random ones, one call a line;
+the file's head tells the format. Or reads such a list and compares every answer with the
+original's; a difference ends with status 1.
+
+--seed S       the seed, a decimal number; 1 without it
+--out FILE     where to write; standard output without it
+--check FILE   the list to check
+--model        check against the model instead
+";
+
+pub const ARITHMETIC_HELP: &str = "\
+oracle arithmetic
+
+Compares the original's private arithmetic methods with the port's static library libprobe.a over
+all inputs, one line a function; a difference ends with status 1. The command is there when the
+oracle is built with the feature `probe`:
+
+  rt staticlib probe                                  (at the repository's top)
+  cargo run --release --features probe -- arithmetic  (in oracle/)
+
+The environment variable PROBE_LIB_DIR names another folder of libprobe.a than ../target/staticlib.
+";

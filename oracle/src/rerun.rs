@@ -1,0 +1,338 @@
+//! Demand 3 by running: a run through the port, cut into lists of calls in two ways, on pages that
+//! differ wherever the run does not read a byte before it has stored a write there.
+//!
+//! Which bytes are read first, and what is written, comes from the original's log.
+
+#![forbid(unsafe_code)]
+
+use crate::call::{Access, Call, Log, Record, Side, GREATEST_LIMIT, GREATEST_TM};
+use crate::compare::{self, slices};
+use crate::original::Original;
+use crate::port;
+use crate::progress::Progress;
+use crate::random::{self, Random};
+use crate::shrink;
+use bare::Told;
+
+/// The first access to a byte of a lent page.
+#[derive(Clone, Copy, PartialEq, Eq)]
+enum First {
+    None,
+    Read,
+    Written,
+}
+
+/// What the original does over a whole list of calls.
+struct Course {
+    told: Told,
+    record: Record,
+    first: [Vec<First>; 2],
+    /// The stored writes of completed steps, in order: page, offset, byte.
+    writes: Vec<(usize, usize, u8)>,
+    /// Reads of a byte that was written before it was ever read, and those of them inside a step.
+    later_reads: u64,
+    inside: u64,
+}
+
+impl Course {
+    /// The bytes of a lent page that an access touches: none past the page's end.
+    fn place(&self, access: &Access) -> Option<(usize, usize)> {
+        let (page, offset) = ((access.address >> 16) as usize, (access.address & 0xFFFF) as usize);
+        (offset < self.first[page].len()).then_some((page, offset))
+    }
+
+    /// Reads of a stopping step count, and so would its writes; writes that are kept are those of
+    /// completed steps.
+    fn add(&mut self, log: &Log) {
+        for index in 0..log.starts.len() {
+            let mut own = vec![];
+            for access in log.step(index) {
+                let Some((page, offset)) = self.place(access) else { continue };
+                self.access(access, page, offset, &mut own);
+            }
+        }
+        for write in log.writes() {
+            if let Some((page, offset)) = self.place(write) {
+                self.writes.push((page, offset, write.byte));
+            }
+        }
+    }
+
+    /// `own` has the bytes that the present step was the first to write.
+    fn access(
+        &mut self,
+        access: &Access,
+        page: usize,
+        offset: usize,
+        own: &mut Vec<(usize, usize)>,
+    ) {
+        let first = &mut self.first[page][offset];
+        match (access.is_write(), *first) {
+            (true, First::None) => {
+                *first = First::Written;
+                own.push((page, offset));
+            }
+            (false, First::None) => *first = First::Read,
+            (false, First::Written) => {
+                self.later_reads += 1;
+                self.inside += u64::from(own.contains(&(page, offset)));
+            }
+            _ => {}
+        }
+    }
+
+    /// These pages with the writes stored.
+    fn stored(&self, pages: &[Vec<u8>; 2]) -> [Vec<u8>; 2] {
+        let mut pages = pages.clone();
+        for (page, offset, byte) in &self.writes {
+            pages[*page][*offset] = *byte;
+        }
+        pages
+    }
+}
+
+/// The original over a list of calls.
+fn course(call: &Call, limits: &[u32]) -> Result<Course, String> {
+    let first = [0, 1].map(|page: usize| vec![First::None; call.pages[page].len()]);
+    let (told, record) = (Told::default(), call.record);
+    let mut course = Course { told, record, first, writes: vec![], later_reads: 0, inside: 0 };
+    let mut next = call.clone();
+    for limit in limits {
+        next.limit = *limit;
+        let answer = Original.call(&next);
+        if let Some(message) = answer.failure {
+            return Err(format!("the original failed: {message}"));
+        }
+        let Told { steps, states, .. } = course.told;
+        let (steps, states) = (steps + answer.steps, states + answer.states);
+        course.told = Told { number: answer.number, byte: answer.byte, steps, states };
+        course.record = answer.record;
+        course.add(&answer.log.unwrap_or_default());
+        (next.record, next.pages) = (answer.record, answer.pages);
+    }
+    Ok(course)
+}
+
+/// The port over a list of calls: its answers must sum up to the course.
+fn follow(
+    course: &Course,
+    call: &Call,
+    pages: &[Vec<u8>; 2],
+    limits: &[u32],
+) -> Result<(), String> {
+    let mut after = pages.clone();
+    let (mut steps, mut states) = (0, 0);
+    let mut last = None;
+    let mut record = call.record;
+    for limit in limits {
+        let answer = port::call(&record, call.keyboard, *limit, &mut after);
+        if let Some(message) = &answer.failure {
+            return Err(format!("failure: {message}"));
+        }
+        record = answer.record;
+        steps += answer.steps;
+        states += answer.states;
+        last = Some(answer);
+    }
+    let mut sum = last.ok_or("an empty list")?;
+    (sum.steps, sum.states) = (steps, states);
+    let expected = course.stored(pages);
+    let told = compare::told_difference(&course.told, &course.record, &sum);
+    let pages = || compare::pages_difference(slices(&expected), slices(&after));
+    told.or_else(pages).map_or(Ok(()), Err)
+}
+
+/// Another value for every byte that is not read first.
+fn other_pages(random: &mut Random, course: &Course, pages: &[Vec<u8>; 2]) -> [Vec<u8>; 2] {
+    let mut other = pages.clone();
+    for (page, first) in other.iter_mut().zip(&course.first) {
+        for (byte, first) in page.iter_mut().zip(first) {
+            if *first != First::Read {
+                *byte ^= 1 + random.below(255) as u8;
+            }
+        }
+    }
+    other
+}
+
+/// Cuts a number of steps into limits of 1 to 1,000,000 each.
+fn cut(random: &mut Random, total: u32) -> Vec<u32> {
+    let most = match random.below(5) {
+        0 => total,
+        1 if total <= 400 => 1,
+        2 => 1 + total / 2,
+        _ => 1 + random.below(u64::from(total / 4 + 2)) as u32,
+    };
+    let most = most.max(total / 1000).min(GREATEST_LIMIT);
+    let mut limits = vec![];
+    let mut left = total;
+    while left > 0 {
+        let limit = if most == 1 { 1 } else { 1 + random.below(u64::from(most)) as u32 };
+        let limit = if most == total { most } else { limit };
+        limits.push(limit.min(left).min(GREATEST_LIMIT));
+        left -= limits[limits.len() - 1];
+    }
+    limits
+}
+
+/// What the runs have reached.
+#[derive(Default)]
+struct Counts {
+    calls: u64,
+    steps: u64,
+    stops: [u64; 8],
+    above_one_call: u64,
+    after_stop: u64,
+    bytes: u64,
+    other: u64,
+    later_reads: u64,
+    inside: u64,
+}
+
+impl Counts {
+    fn add(&mut self, course: &Course, lists: [&[u32]; 2], total: u32) {
+        self.calls += lists.iter().map(|list| list.len() as u64).sum::<u64>();
+        self.steps += course.told.steps;
+        self.stops[usize::from(course.told.number)] += 1;
+        self.above_one_call += u64::from(total > GREATEST_LIMIT);
+        let last_begins = lists.map(|list| u64::from(total - list[list.len() - 1]));
+        let stopped = course.told.number != 0;
+        let again = last_begins.iter().any(|begin| *begin > course.told.steps);
+        self.after_stop += u64::from(stopped && again);
+        let first = || course.first.iter().flatten();
+        self.bytes += first().count() as u64;
+        self.other += first().filter(|first| **first != First::Read).count() as u64;
+        self.later_reads += course.later_reads;
+        self.inside += course.inside;
+    }
+
+    fn print(&self) {
+        let stops: Vec<_> = [0, 5, 6, 7].map(|i| format!("{i}: {}", self.stops[i])).into();
+        println!("final stops: {}", stops.join(" "));
+        println!(
+            "runs with calls after a stop: {}; of more than 1,000,000 steps: {}",
+            self.after_stop, self.above_one_call
+        );
+        println!(
+            "bytes of lent pages: {}, of them given another value: {}",
+            self.bytes, self.other
+        );
+        println!(
+            "reads of a byte that was written first: {}, inside the writing step: {}",
+            self.later_reads, self.inside
+        );
+    }
+}
+
+/// Runs one case; tells the first difference. Cuts and values depend on the seed and index only.
+fn check(call: &Call, seed: u64, index: u64, counts: &mut Counts) -> Result<(), String> {
+    let mut random = Random::new(seed ^ 0x5EED, index);
+    let lists = [cut(&mut random, call.limit), cut(&mut random, call.limit)];
+    let course = course(call, &lists[0])?;
+    let other = other_pages(&mut random, &course, &call.pages);
+    follow(&course, call, &call.pages, &lists[0]).map_err(|how| format!("given pages: {how}"))?;
+    follow(&course, call, &other, &lists[1]).map_err(|how| format!("other pages: {how}"))?;
+    counts.add(&course, [&lists[0], &lists[1]], call.limit);
+    Ok(())
+}
+
+/// A call that no condition of 1 to 4 turns down; its limit is the sum of a list's.
+fn case(random: &mut Random) -> Call {
+    let mut call = random::call(random);
+    call.pages.iter_mut().for_each(|page| page.truncate(65_536));
+    call.record.tm &= GREATEST_TM;
+    call.limit = match random.below(1500) {
+        0 => 1_000_001 + random.below(200_000) as u32,
+        1..=20 => 1000 + random.below(20_000) as u32,
+        21..=400 => 1 + random.below(6) as u32,
+        _ => 1 + random.below(400) as u32,
+    };
+    if random.chance(4) {
+        stack_over_vectors(random, &mut call.record);
+    }
+    call
+}
+
+/// An interrupt whose pushes lie over its own vector.
+fn stack_over_vectors(random: &mut Random, record: &mut Record) {
+    record.s = 0xFFF7 + random.below(8) as u16;
+    record.set_flags(0x008 | random.pick(&[0x040, 0x080, 0x100, 0x041]));
+    record.t |= 0x02;
+}
+
+/// Runs the cases; true where demand 3 held in each.
+pub fn run(cases: u64, seed: u64) -> bool {
+    println!("seed {seed}, lists of calls through the port");
+    let mut counts = Counts::default();
+    let mut progress = Progress::new("run", cases);
+    for index in 0..cases {
+        let call = case(&mut Random::new(seed, index));
+        if let Err(how) = check(&call, seed, index, &mut counts) {
+            progress.wipe();
+            println!("run {index} differs: {how}; making it smaller");
+            report(call, seed, index);
+            return false;
+        }
+        progress.show(index);
+    }
+    progress.wipe();
+    counts.print();
+    println!("{cases} runs, {} calls, {} steps, 0 differences", counts.calls, counts.steps);
+    true
+}
+
+fn report(call: Call, seed: u64, index: u64) {
+    let mut unused = Counts::default();
+    let mut fails = |call: &Call| call.limit > 0 && check(call, seed, index, &mut unused).is_err();
+    let smallest = shrink::shrink(call, &mut fails);
+    let mut random = Random::new(seed ^ 0x5EED, index);
+    let lists = [cut(&mut random, smallest.limit), cut(&mut random, smallest.limit)];
+    println!("smallest failing input found:");
+    print!("{}", shrink::describe(&smallest));
+    println!("limits on the given pages {:?}, on the other pages {:?}", lists[0], lists[1]);
+    let how = check(&smallest, seed, index, &mut Counts::default());
+    println!("first difference: {}", how.err().unwrap_or_default());
+}
+
+#[cfg(test)]
+mod tests {
+    use super::{course, cut, First};
+    use crate::call::{Call, Record};
+    use crate::random::Random;
+
+    #[test]
+    fn limits_add_up() {
+        for index in 0..2000 {
+            let mut random = Random::new(5, index);
+            let total = 1 + random.below(1_300_000) as u32 / (1 + random.below(100_000) as u32);
+            let limits = cut(&mut random, total);
+            assert_eq!(limits.iter().sum::<u32>(), total);
+            assert!(limits.iter().all(|limit| (1..=1_000_000).contains(limit)));
+        }
+    }
+
+    /// An interrupt with S at FFFB writes FFFB and FFFA and then reads them as its vector.
+    #[test]
+    fn a_vector_under_the_stack_is_not_read_first() {
+        let record = Record { s: 0xFFFB, t: 2, bf: true, ir1: true, ..Record::default() };
+        let pages = [vec![0x38; 65_536], vec![]];
+        let course = course(&Call { record, keyboard: 0, limit: 1, pages }, &[1]).unwrap();
+        let first = |offset: usize| course.first[0][offset];
+        assert!([0xFFF9, 0xFFFA, 0xFFFB].iter().all(|i| first(*i) == First::Written));
+        assert_eq!((course.later_reads, course.inside), (2, 2));
+        assert_eq!(course.writes.len(), 3);
+        assert!(course.first[0].iter().all(|first| *first != First::Read));
+    }
+
+    /// A stopping step's reads count; a read past the end and a dropped write do not.
+    #[test]
+    fn reads_of_a_stopping_step_count() {
+        let record = Record { x: 9, bf: true, ..Record::default() };
+        let pages = [vec![0x0E, 0x05, 0xFD, 0x00], vec![]];
+        let call = Call { record, keyboard: 0, limit: 5, pages };
+        let course = course(&call, &[1, 4]).unwrap();
+        assert_eq!((course.told.number, course.told.byte, course.told.steps), (6, 0, 2));
+        assert!(course.first[0].iter().all(|first| *first == First::Read));
+        assert!(course.writes.is_empty());
+    }
+}

@@ -194,7 +194,7 @@ impl Answer {
     }
 }
 
-/// An implementation that answers calls. The proved port becomes one more.
+/// An implementation that answers calls: the original, the model, the port.
 pub trait Side {
     fn name(&self) -> &'static str;
     fn call(&mut self, call: &Call) -> Answer;

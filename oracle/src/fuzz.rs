@@ -281,16 +281,16 @@ fn printed(program: &Path, file: &[u8]) -> Result<String, String> {
     String::from_utf8(output.stdout).map_err(|_| "the line is not text".to_string())
 }
 
-/// How the program and the oracle differ on a file.
-fn difference(program: &Path, file: &[u8]) -> Option<String> {
-    let expected = match expected(file) {
-        Ok(line) => format!("{line}\n"),
-        Err(message) => return Some(format!("the original failed: {message}")),
-    };
+/// The number of a file's line, or how the program and the oracle differ on it.
+fn check(program: &Path, file: &[u8]) -> Result<usize, String> {
+    let line = expected(file).map_err(|message| format!("the original failed: {message}"))?;
     match printed(program, file) {
-        Ok(line) if line == expected => None,
-        Ok(line) => Some(format!("oracle {expected:?}, program {line:?}")),
-        Err(message) => Some(format!("oracle {expected:?}, program: {message}")),
+        Ok(text) if text.strip_suffix('\n') == Some(&line) => {
+            let number = line.split(' ').next().and_then(|word| word.parse().ok());
+            number.ok_or(format!("not a line: {line}"))
+        }
+        Ok(text) => Err(format!("oracle {line:?} and a newline, program {text:?}")),
+        Err(message) => Err(format!("oracle {line:?}, program: {message}")),
     }
 }
 
@@ -313,13 +313,11 @@ fn work(settings: &Settings, thread: u64, shared: &Shared) -> Option<Vec<u8>> {
         }
         let random = || file(&mut Random::new(settings.seed, index - directed.len() as u64));
         let file = directed.get(index as usize).cloned().unwrap_or_else(random);
-        if difference(&settings.program, &file).is_some() {
+        let Ok(number) = check(&settings.program, &file) else {
             shared.ended.store(true, Ordering::Relaxed);
             return Some(file);
-        }
-        let line = expected(&file).unwrap_or_default();
-        let number = line.split(' ').next().and_then(|word| word.parse::<usize>().ok());
-        shared.numbers[number.unwrap_or(0)].fetch_add(1, Ordering::Relaxed);
+        };
+        shared.numbers[number].fetch_add(1, Ordering::Relaxed);
         shared.done.fetch_add(1, Ordering::Relaxed);
     }
     None
@@ -367,10 +365,10 @@ fn smaller(program: &Path, mut file: Vec<u8>) -> Vec<u8> {
             let shorter = [&file[..begin], &file[end..]].concat();
             let mut zeroed = file.clone();
             zeroed[begin..end].fill(0);
-            if difference(program, &shorter).is_some() {
+            if check(program, &shorter).is_err() {
                 file = shorter;
             } else {
-                if zeroed != file && difference(program, &zeroed).is_some() {
+                if zeroed != file && check(program, &zeroed).is_err() {
                     file = zeroed;
                 }
                 begin = end;
@@ -386,7 +384,7 @@ fn report(program: &Path, file: Vec<u8>) {
     let file = smaller(program, file);
     let digits: Vec<String> = file.iter().map(|byte| format!("{byte:02X}")).collect();
     println!("smallest failing file found, {} bytes: {}", file.len(), digits.join(" "));
-    println!("{}", difference(program, &file).unwrap_or_default());
+    println!("{}", check(program, &file).err().unwrap_or_default());
 }
 
 #[cfg(test)]
@@ -419,6 +417,6 @@ mod tests {
             let line = expected(&file).unwrap();
             reached[line.split(' ').next().unwrap().parse::<usize>().unwrap()] = true;
         }
-        assert!((0..11).all(|number| reached[number] == !(1..=2).contains(&number)));
+        assert!((0..11).all(|number| reached[number] != (1..=2).contains(&number)));
     }
 }

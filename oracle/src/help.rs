@@ -99,8 +99,8 @@ oracle speed [--rounds N] [--bench DIR]
 
 Measures three ways to do the same work, in interleaved rounds: the original's bare step_cpu loop,
 the original under a run call with its stop checks, and the port. Prints the median with the least
-and the greatest, and the ratios of the medians; above 1 the port is faster. It wants the feature
-`port`.
+and the greatest, and the ratios of the medians, with those of the least costs behind them; above 1
+the port is faster. It wants the feature `port`.
 
 --rounds N    rounds that count; 15 without it
 --bench DIR   the folder of lop.bin, dca.bin and mixed.bin; ../../shared/bench without it

@@ -229,8 +229,10 @@ impl Side for Original {
 
 #[cfg(test)]
 mod tests {
-    use super::{panicked, Panicked, Pc1500};
-    use crate::call::Record;
+    use super::{panicked, Original, Panicked, Pc1500};
+    use crate::call::{Record, Side};
+    use crate::compare::{pages_difference, slices, told_difference};
+    use crate::random::{self, Random};
 
     #[test]
     fn another_panic_is_a_failure_of_its_own() {
@@ -239,6 +241,20 @@ mod tests {
         let first = "Illegal opcode: 0xff at PC: 0x0002".to_string();
         assert!(matches!(panicked(&first), Panicked::Illegal { number: 5, byte: 0xFF }));
         assert!(matches!(panicked(&"index out of bounds"), Panicked::Other(_)));
+    }
+
+    /// The library's run call, which foretells 5 and 6, answers as the panics do.
+    #[test]
+    fn the_bare_run_call_answers_as_the_panics_do() {
+        for index in 0..3000 {
+            let call = random::call(&mut Random::new(11, index));
+            let panics = Original.call(&call);
+            let mut bare = bare::Pc1500::new(&call.record, call.keyboard, call.pages);
+            let told = bare.original_run(call.limit, &mut ());
+            assert_eq!(told_difference(&told, &bare.lh5801.record(), &panics), None);
+            let pages = [bare.page0, bare.page1];
+            assert_eq!(pages_difference(slices(&pages), slices(&panics.pages)), None);
+        }
     }
 
     fn digits(value: u32) -> u8 {

@@ -1,4 +1,5 @@
-//! The C entries of the port's static library `libprobe.a`. The only file with unsafe code.
+//! The C entries of the port's static library `libprobe.a`. Beside `port.rs` the only file with
+//! unsafe code.
 
 #![allow(unsafe_code)]
 

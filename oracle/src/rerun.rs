@@ -7,6 +7,7 @@
 
 use crate::call::{Access, Call, Log, Record, Side, GREATEST_LIMIT, GREATEST_TM};
 use crate::compare::{self, slices};
+use crate::opcodes::{table, Kind, Place};
 use crate::original::Original;
 use crate::port;
 use crate::progress::Progress;
@@ -239,6 +240,10 @@ fn check(call: &Call, seed: u64, index: u64, counts: &mut Counts) -> Result<(), 
 /// A call that no condition of 1 to 4 turns down; its limit is the sum of a list's.
 fn case(random: &mut Random) -> Call {
     let mut call = random::call(random);
+    if random.chance(30) {
+        call.pages = random::world(random);
+        call.record = random::record(random, [call.pages[0].len(), call.pages[1].len()]);
+    }
     call.pages.iter_mut().for_each(|page| page.truncate(65_536));
     call.record.tm &= GREATEST_TM;
     call.limit = match random.below(1500) {
@@ -247,10 +252,42 @@ fn case(random: &mut Random) -> Call {
         21..=400 => 1 + random.below(6) as u32,
         _ => 1 + random.below(400) as u32,
     };
-    if random.chance(4) {
-        stack_over_vectors(random, &mut call.record);
+    match random.below(100) {
+        0..=3 => stack_over_vectors(random, &mut call.record),
+        4..=23 => near_stores(random, &mut call),
+        _ => {}
     }
     call
+}
+
+/// Code that stores and loads among a few bytes of both pages, so that many are written first.
+fn near_stores(random: &mut Random, call: &mut Call) {
+    call.pages = [vec![], vec![]];
+    let code = (0..20 + random.below(80)).flat_map(|_| storing(random)).collect::<Vec<u8>>();
+    let place = code.len() as u64 + 8;
+    call.pages[0] = code;
+    for page in &mut call.pages {
+        page.resize(place as usize + random.below(24) as usize, 0x00);
+        page.iter_mut().skip(place as usize - 8).for_each(|byte| *byte = random.byte());
+    }
+    let mut near = || (place + random.below(12)) as u16;
+    let (x, y, u, s) = (near(), near(), near(), near());
+    call.record =
+        Record { x, y, u, s, p: 0, is_halted: false, bf: true, ir0: false, ..call.record };
+}
+
+/// A listed instruction that touches memory and has no operand in the code.
+fn storing(random: &mut Random) -> Vec<u8> {
+    loop {
+        let (page, byte) = (random.below(2) as usize, random.byte());
+        let Some(entry) = table()[page][usize::from(byte)] else { continue };
+        let stack = matches!(entry.kind, Kind::Push | Kind::Pop);
+        let walks = matches!(entry.kind, Kind::LoadWalking(_) | Kind::StoreWalking(_));
+        let memory = stack || walks || matches!(entry.place, Place::At(..));
+        if memory && entry.code_bytes() == 0 {
+            return if page == 1 { vec![0xFD, byte] } else { vec![byte] };
+        }
+    }
 }
 
 /// An interrupt whose pushes lie over its own vector.

@@ -9,7 +9,7 @@
 use std::fs;
 use std::panic::{catch_unwind, AssertUnwindSafe};
 use std::path::{Path, PathBuf};
-use std::time::{Duration, Instant};
+use std::time::Instant;
 
 use bare::{Lh5801, Pc1500, Told};
 
@@ -28,7 +28,7 @@ const BARE: usize = 0;
 const ORIGINAL: usize = 1;
 const PORT: usize = 2;
 
-/// A run cut into calls of equal limits, made again from its start until enough steps are done.
+/// A run cut into calls of equal limits, made again from its start some times in a round.
 struct Work {
     title: String,
     call: Call,
@@ -40,24 +40,23 @@ struct Work {
 }
 
 impl Work {
-    /// The run as one call; repeated up to a million steps.
+    /// The run as one call, made again up to a million steps.
     fn steps(title: &str, call: &Call, steps: u32) -> Work {
         let call = Call { limit: steps, ..call.clone() };
         let repeats = (1_000_000 / steps).max(1);
         Work { title: title.to_string(), call, cut: steps, repeats, per_call: false }
     }
 
-    /// The run of 100,000 calls of this limit.
+    /// A run of 1,000 or 10,000 calls of this limit, made ten times.
     fn calls(title: &str, call: &Call, cut: u32) -> Work {
-        let call = Call { limit: cut * 10_000, ..call.clone() };
-        let repeats = if cut < 100 { 10 } else { 1 };
-        Work { title: title.to_string(), call, cut, repeats, per_call: true }
+        let calls = if cut < 100 { 10_000 } else { 1000 };
+        let call = Call { limit: cut * calls, ..call.clone() };
+        Work { title: title.to_string(), call, cut, repeats: 10, per_call: true }
     }
 
-    /// How many steps, or calls, all repeats have.
+    /// How many steps, or calls, a run has.
     fn units(&self) -> f64 {
-        let calls = if self.per_call { self.call.limit / self.cut } else { self.call.limit };
-        f64::from(calls) * f64::from(self.repeats)
+        f64::from(if self.per_call { self.call.limit / self.cut } else { self.call.limit })
     }
 }
 
@@ -108,16 +107,17 @@ impl Sides {
         number
     }
 
-    /// The time of all repeats.
-    fn time(&mut self, way: usize, work: &Work) -> Duration {
-        let mut sum = Duration::ZERO;
+    /// Nanoseconds for a step or a call: the median of the repeats. A repeat of less than a
+    /// millisecond is seldom cut into by another process.
+    fn cost(&mut self, way: usize, work: &Work) -> f64 {
+        let mut costs = vec![];
         for _ in 0..work.repeats {
             self.reset(way, &work.call);
             let begin = Instant::now();
             self.run(way, work);
-            sum += begin.elapsed();
+            costs.push(begin.elapsed().as_nanos() as f64 / work.units());
         }
-        sum
+        spread(costs).median
     }
 
     /// Whether all three ways end with the same record and pages, and stop nowhere.
@@ -162,9 +162,9 @@ fn measure(work: &Work, rounds: u64) -> Result<[Spread; 3], String> {
     for round in 0..=rounds {
         for turn in 0..3 {
             let way = (round as usize + turn) % 3;
-            let nanoseconds = sides.time(way, work).as_nanos() as f64;
+            let cost = sides.cost(way, work);
             if round > 0 {
-                costs[way].push(nanoseconds / work.units());
+                costs[way].push(cost);
             }
         }
     }
@@ -173,27 +173,29 @@ fn measure(work: &Work, rounds: u64) -> Result<[Spread; 3], String> {
 
 fn print_head(title: &str, unit: &str) {
     println!("\n{title}; nanoseconds {unit}: median (least to greatest)");
+    let [bare, original, port] = WAYS;
     println!(
-        "{:<30} {:>22} {:>22} {:>22} {:>9} {:>9}",
-        "", WAYS[BARE], WAYS[ORIGINAL], WAYS[PORT], "bare/port", "orig/port"
+        "{:<27} {bare:>28} {original:>28} {port:>28} {:>13} {:>13}",
+        "", "bare/port", "original/port"
     );
+}
+
+/// The ratio of the medians, and of the least costs, which other load on the machine moves less.
+fn ratio(left: &Spread, right: &Spread) -> String {
+    format!("{:.2} ({:.2})", left.median / right.median, left.least / right.least)
 }
 
 fn print_row(work: &Work, rounds: u64) -> Result<(), String> {
     let costs = measure(work, rounds)?;
-    let cells = costs.each_ref().map(|cost| {
+    let [bare, original, port] = costs.each_ref().map(|cost| {
         let range = format!("({:.2} to {:.2})", cost.least, cost.greatest);
         format!("{:.2} {range}", cost.median)
     });
-    let [bare, original, port] = costs.map(|cost| cost.median);
     println!(
-        "{:<30} {:>22} {:>22} {:>22} {:>9.2} {:>9.2}",
+        "{:<27} {bare:>28} {original:>28} {port:>28} {:>13} {:>13}",
         work.title,
-        cells[BARE],
-        cells[ORIGINAL],
-        cells[PORT],
-        bare / port,
-        original / port
+        ratio(&costs[BARE], &costs[PORT]),
+        ratio(&costs[ORIGINAL], &costs[PORT])
     );
     Ok(())
 }
@@ -235,6 +237,7 @@ pub fn run(settings: &Settings) -> Result<(), String> {
     let rounds = settings.rounds;
     let programs = programs(&settings.bench)?;
     println!("{rounds} interleaved rounds after one that is not counted, one thread, one process");
+    println!("ratios: of the medians (of the least); above 1 the port is faster");
     print_head("Whole runs of 1,000,000 steps", "a step");
     for (name, call) in &programs {
         print_row(&Work::steps(name, call, 1_000_000), rounds)?;

@@ -8,8 +8,7 @@ use Rattle.pages.specs.Pages.{Pages}
 use Rattle.run.specs.declared.Answer.{Answer}
 use Rattle.run.specs.Entry.{endNumber, endByte}
 use Rattle.run.specs.Run.{Outcome}
-use Rattle.run.specs.CampaignFile.{cpuOf}
-use Rattle.run.specs.Line.{flagsOf}
+use Rattle.run.specs.CampaignFile.{cpuOf, flagsOf}
 
 -- words 0 to 11: A T X Y U S P TM flags timer-states previous ticks. A word above its field's width counts modulo the width: 8 bits for A and
 -- T, 16 for X, Y, U, S, P and TM, 9 for the flags, whose bits are those of the campaign file

@@ -36,6 +36,13 @@ fn record_of(words: &[u64; 16]) -> Lh5801
     campaign_file::cpu_of(registers, pairs, timing)
 }
 
+// 16 bits as a word.
+fn wide(value: u16) -> u64
+    ensures { λ r. ⌜ r ≡ value ⌝ }
+{
+    value as u64
+}
+
 // All sixteen words of an answer.
 fn words_of(r: Answer) -> [u64; 16]
     ensures { λ w. ⌜ w ≡ wordsOf r ⌝ }
@@ -45,13 +52,13 @@ fn words_of(r: Answer) -> [u64; 16]
     [
         cpu.a as u64,
         cpu.t as u64,
-        cpu.x as u64,
-        cpu.y as u64,
-        cpu.u as u64,
-        cpu.s as u64,
-        cpu.p as u64,
-        cpu.tm as u64,
-        run::line::flags_of(cpu) as u64,
+        wide(cpu.x),
+        wide(cpu.y),
+        wide(cpu.u),
+        wide(cpu.s),
+        wide(cpu.p),
+        wide(cpu.tm),
+        wide(run::line::flags_of(cpu)),
         cpu.timer_state,
         cpu.step_previous_state,
         cpu.ticks,

@@ -69,36 +69,39 @@ module _ (s : Settings) (m : Lh5801) (p : Pages) (h : Accepted s m p) where
 
   -- 5 to 7 exactly when, after fewer completed steps, the next one stops
   pub step-stops : (x : Stop) → (callOf s m p .told .end ≡ Step x) ↔ StopsWithin (s .keyboard) (s .limit) m p x
-  step-stops x =
-      (λ e.
-          record {
-            steps = callOf s m p .told .steps;
-            states = callOf s m p .told .states;
-            cpu = callOf s m p .told .cpu;
-            pages = callOf s m p .pages;
-            wrote = callOf s m p .wrote;
-            fewer = stopping e .0;
-            reached = call-reaches;
-            stops = stopping e .1;
-          },
-      λ r. rw (call-run s m p h, reaches-stop (s .limit) (r .reached) (r .fewer) (r .stops)))
+  step-stops x = (
+    λ e.
+        record {
+          steps = callOf s m p .told .steps;
+          states = callOf s m p .told .states;
+          cpu = callOf s m p .told .cpu;
+          pages = callOf s m p .pages;
+          wrote = callOf s m p .wrote;
+          fewer = stopping e .0;
+          reached = call-reaches;
+          stops = stopping e .1;
+        },
+    λ r. rw (call-run s m p h, reaches-stop (s .limit) (r .reached) (r .fewer) (r .stops)),
+  )
 
   -- the answer on 0: the steps, states, record, pages and writes are those of the completed steps
   pub completes-with : (j t : ℕ) (k : Lh5801) (q : Pages) (ws : List Write)
       → (callOf s m p ≡ outcome AllSteps j t k q ws) ↔ ((j ≡ s .limit) × Reaches (s .keyboard) j m p k q t ws)
-  completes-with j t k q ws =
-      (λ e. (ap (λ o. o .told .steps) (sym e) ∙ all-steps .0 (ap (λ o. o .told .end) e), rw e at call-reaches),
-      λ r. rw (call-run s m p h, ← (r .0)) (reaches-run (r .1)))
+  completes-with j t k q ws = (
+    λ e. (ap (λ o. o .told .steps) (sym e) ∙ all-steps .0 (ap (λ o. o .told .end) e), rw e at call-reaches),
+    λ r. rw (call-run s m p h, ← (r .0)) (reaches-run (r .1)),
+  )
 
   -- the answer on 5 to 7: the same of the completed steps, so that the record and pages are as before the step that stops
   pub stops-with : (x : Stop) (j t : ℕ) (k : Lh5801) (q : Pages) (ws : List Write)
       → (callOf s m p ≡ outcome (Step x) j t k q ws)
       ↔ ((j < s .limit) × Reaches (s .keyboard) j m p k q t ws × (oneStep (s .keyboard) k q .answer ≡ stopped x))
-  stops-with x j t k q ws =
-      (λ e.
-          let a = stopping (ap (λ o. o .told .end) e) in
-          (rw e at (a .0), rw e at call-reaches, rw e at (a .1)),
-      λ r. rw (call-run s m p h) (reaches-stop (s .limit) (r .1) (r .0) (r .2)))
+  stops-with x j t k q ws = (
+    λ e.
+        let a = stopping (ap (λ o. o .told .end) e) in
+        (rw e at (a .0), rw e at call-reaches, rw e at (a .1)),
+    λ r. rw (call-run s m p h) (reaches-stop (s .limit) (r .1) (r .0) (r .2)),
+  )
 
 -- number 0, of every call
 module _ (s : Settings) (m : Lh5801) (p : Pages) where

@@ -123,10 +123,11 @@ all-accepted : (l : ℕ) (ls : List ℕ) (key : ℕ) (m : Lh5801) (p : Pages)
 unfolding sum AtLeastOne AllAccepted
 all-accepted l [] key m p h i is = (first-accepted l 0 key h i, tt)
 all-accepted l (k ∷ ks) key m p h i is =
-    let a = first-accepted l (k + sum ks) key h i in
-    (a,
-    rw (call-run (settings key l) m p a)
-    (all-accepted k ks key _ _ (rest-accepted l (k + sum ks) key h (omega (arith, is .0))) (is .0) (is .1)))
+    let a = first-accepted l (k + sum ks) key h i in (
+      a,
+      rw (call-run (settings key l) m p a)
+          (all-accepted k ks key _ _ (rest-accepted l (k + sum ks) key h (omega (arith, is .0))) (is .0) (is .1)),
+    )
 
 -- the calls come to one run with the sum of their limits
 calls-add : (l : ℕ) (ls : List ℕ) (key : ℕ) (m : Lh5801) (p : Pages)
@@ -144,9 +145,10 @@ pub demand-3 : Demand3
 unfolding Demand3 sum AtLeastOne
 demand-3 s m p h [] is e q l agree = absurd (omega (arith, limit-some h))
 demand-3 s m p h (k ∷ ks) is e q l agree =
-    let a : Accepted (settings (s .keyboard) (k + sum ks)) m q = rw e (long-accepted h l) in
-    (all-accepted k ks (s .keyboard) m q a (is .0) (is .1),
-    rw (call-run s m p h)
-    (same (rw e at (calls-add k ks (s .keyboard) m q a (is .0) (is .1))) (run-agree (s .limit) (s .keyboard) m p q l agree)
-    (run-written (s .limit) (s .keyboard) m p)
-    (run-written (s .limit) (s .keyboard) m q)))
+    let a : Accepted (settings (s .keyboard) (k + sum ks)) m q = rw e (long-accepted h l) in (
+      all-accepted k ks (s .keyboard) m q a (is .0) (is .1),
+      rw (call-run s m p h)
+          (same (rw e at (calls-add k ks (s .keyboard) m q a (is .0) (is .1))) (run-agree (s .limit) (s .keyboard) m p q l agree)
+          (run-written (s .limit) (s .keyboard) m p)
+          (run-written (s .limit) (s .keyboard) m q)),
+    )

@@ -92,12 +92,13 @@ unfolding noStep completed
 run-writes n key =
     run-each key
     (λ n m p o.
-        (o .told .end ≡ AllSteps → writes (accessesOf n key m p) ≡ o .wrote)
-        × ((s : Stop) → o .told .end ≡ Step s
-        → writes (accessesOf n key m p) ≡ o .wrote ++ writes (oneStep key (o .told .cpu) (o .pages) .accesses)))
+    (o .told .end ≡ AllSteps → writes (accessesOf n key m p) ≡ o .wrote)
+    × ((s : Stop) → o .told .end ≡ Step s
+    → writes (accessesOf n key m p) ≡ o .wrote ++ writes (oneStep key (o .told .cpu) (o .pages) .accesses)))
     (λ m p. (λ e. unfold writes accessesOf in refl, λ s e. absurd (let z : _≡_ {A = ℕ} 0 1 = cc in omega arith)))
     (λ n m p s x. (λ e. absurd (let z : _≡_ {A = ℕ} 0 1 = cc in omega arith), λ y e. rw (accesses-stop key m p n x, append-nil)))
-    (λ n m p k t kind x h.
-        (λ e. rw (accesses-did key m p n x, writes-append, h .0 e),
-        λ s e. rw (accesses-did key m p n x, writes-append, h .1 s e, append-assoc)))
+    (λ n m p k t kind x h. (
+      λ e. rw (accesses-did key m p n x, writes-append, h .0 e),
+      λ s e. rw (accesses-did key m p n x, writes-append, h .1 s e, append-assoc),
+    ))
     n

@@ -72,9 +72,11 @@ module _ (s : Settings) (m : Lh5801) (p : Pages) where
 
   pub entry-accepted : Accepted s m p → entryEnd s m p ≡ none
   entry-accepted h =
-      rw (past-three (h .page0) (h .page1) (h .timer),
-      ne-eqb (s .limit) 0 (λ e. h .limit (inl e)),
-      le-ltb 1_000_000 (s .limit) (limit-most h))
+      rw (
+        past-three (h .page0) (h .page1) (h .timer),
+        ne-eqb (s .limit) 0 (λ e. h .limit (inl e)),
+        le-ltb 1_000_000 (s .limit) (limit-most h),
+      )
 
   -- an accepted call does its steps
   pub call-run : Accepted s m p → callOf s m p ≡ runOf (s .limit) (s .keyboard) m p

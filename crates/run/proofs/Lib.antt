@@ -8,3 +8,5 @@ pub mod Loop
 pub mod CampaignFile
 pub mod PrintedLine
 pub mod Parts
+pub mod Marked
+pub mod AccessOrders

@@ -2,12 +2,13 @@
 use Prim.Native.Nat.{ℕ, _+_, _^_, _-_, _≤_, _<_}
 use native.Mathlib.Omega.{arith}
 use native.Mathlib.Numerals.{add-one}
+use native.Mathlib.Nat.{min-le-right}
 use mathlib.Core.Bool.{Bool, true, false, cond}
 use mathlib.Core.List.{List, _∷_, [], _++_}
 use mathlib.Core.Path.{_≡_, refl, sym, ap, _∙_}
 use borrow.Author.Tests.{ltb-false}
 use lib.Dec.{ltb}
-use lib.ListN.{length, take, drop, getD, set, length-drop}
+use lib.ListN.{length, take, drop, getD, set, length-take, length-drop}
 use lib.Seq.{take-suc, take-suc-set, getD-drop}
 use Rattle.run.specs.declared.campaign_file.Page.{Page}
 use Rattle.run.specs.declared.campaign_file.Parsed.{Parsed}
@@ -17,7 +18,7 @@ use Rattle.run.specs.declared.campaign_file.Refusal.the-variants.{Ends, 
 use Rattle.run.specs.CampaignFile.{Field, read, refused, Reader, onward, numberOf, registersOf, wordsOf, timingOf, settingsOf, bytesOf, pageOf, cpuOf, partsOf, ended, campaignOf, campaignAnswer}
 use Rattle.run.specs.CampaignFile.{refusalNumber, refusalOffset}
 use Rattle.run.specs.Run.{callOf}
-use Rattle.run.specs.Line.{refusalLineOf}
+use Rattle.run.specs.Line.{refusalLineOf, Printed}
 use Rattle.run.specs.Report.{pagesIn, toldLine, reportOf}
 use Rattle.run.proofs.CampaignFile.Number.{number-within}
 
@@ -56,6 +57,7 @@ page-within bytes at page next e = go (then-read bytes (numberOf 16384 bytes at)
         let a : k ≡ page .at = ap (λ (q : Page). q .at) p in
         let l : len ≡ page .len = ap (λ (q : Page). q .len) p in
         record { inside = omega (arith, ltb-false (length bytes) (k + len) h); short = omega arith }
+
     go : Then bytes (numberOf 16384 bytes at) bytesOf page next → Within bytes (page .at) (page .len)
     go t = cut (ltb (length bytes) (t .next + t .value)) (t .value) (t .next) refl (number-within 16384 bytes at (t .value) (t .next) (t .first) .0) (t .after)
 
@@ -119,3 +121,9 @@ module _ (bytes : List ℕ) {x : Campaign} (told : x ≡ campaignAnswer (campaig
 -- where a loop over i to n ends
 pub end : {i n : ℕ} → i ≤ n → n ≤ i → n ≡ i
 end a b = omega arith
+
+-- a printed line lies inside its buffer
+pub printed-within : {before bytes after : List ℕ} {r : ℕ} → Printed before bytes after r → r ≤ length after
+printed-within {after = after} {r = r} p =
+    let e : length (take r after) ≡ r = ap length (p .bytes-are) ∙ sym (p .length-is) in
+    omega (arith, min-le-right r (length after), rw length-take at e)

@@ -43,22 +43,22 @@ module _
     (all : (m : Lh5801) (p : Pages) → P 0 m p (noStep AllSteps m p))
     (stop : (n : ℕ) (m : Lh5801) (p : Pages) (s : Stop) → oneStep key m p .answer ≡ stopped s → P (suc n) m p (noStep (Step s) m p))
     (next : (n : ℕ) (m : Lh5801) (p : Pages) (k : Lh5801) (t : ℕ) (kind : Kind)
-        → oneStep key m p .answer ≡ did k t kind
-        → P n k (oneStep key m p .pages) (runOf n key k (oneStep key m p .pages))
-        → P (suc n) m p (completed t (writes (oneStep key m p .accesses)) (runOf n key k (oneStep key m p .pages))))
+    → oneStep key m p .answer ≡ did k t kind
+    → P n k (oneStep key m p .pages) (runOf n key k (oneStep key m p .pages))
+    → P (suc n) m p (completed t (writes (oneStep key m p .accesses)) (runOf n key k (oneStep key m p .pages))))
   where
-  pub run-each : (n : ℕ) (m : Lh5801) (p : Pages) → P n m p (runOf n key m p)
-  unfolding runOf
-  run-each zero m p = all m p
-  run-each (suc n) m p = go (x .answer) refl (λ k. run-each n k (x .pages))
-    where
-      x : Ran StepEnd
-      x = oneStep key m p
+    pub run-each : (n : ℕ) (m : Lh5801) (p : Pages) → P n m p (runOf n key m p)
+    unfolding runOf
+    run-each zero m p = all m p
+    run-each (suc n) m p = go (x .answer) refl (λ k. run-each n k (x .pages))
+      where
+        x : Ran StepEnd
+        x = oneStep key m p
 
-      go : (e : StepEnd) → x .answer ≡ e → ((k : Lh5801) → P n k (x .pages) (runOf n key k (x .pages)))
-          → P (suc n) m p (runOf (suc n) key m p)
-      go (did k t kind) e h = rw (run-did key m p n e) (next n m p k t kind e (h k))
-      go (stopped s) e h = rw (run-stop key m p n e) (stop n m p s e)
+        go : (e : StepEnd) → x .answer ≡ e → ((k : Lh5801) → P n k (x .pages) (runOf n key k (x .pages)))
+            → P (suc n) m p (runOf (suc n) key m p)
+        go (did k t kind) e h = rw (run-did key m p n e) (next n m p k t kind e (h k))
+        go (stopped s) e h = rw (run-stop key m p n e) (stop n m p s e)
 
 -- what the steps of a call leave of the pages, byte by byte
 pub run-written : (n key : ℕ) (m : Lh5801) (p : Pages) → Written p (runOf n key m p .wrote) (runOf n key m p .pages)
@@ -130,13 +130,13 @@ run-agree n key m p q l h =
     run-each key (λ n m p o. (q : Pages) → SameLength p q → Agree p q (accessesOf n key m p) → SameButPages o (runOf n key m q))
     (λ m p q l h. unfold runOf in twins-noStep AllSteps m p q)
     (λ n m p s e q l h.
-        let both = exec-agree (stepOf m key) p q [] l (rw (accesses-stop key m p n e) at h) in
-        rw (run-stop key m q n (both .answer ∙ e)) (twins-noStep (Step s) m p q))
+    let both = exec-agree (stepOf m key) p q [] l (rw (accesses-stop key m p n e) at h) in
+    rw (run-stop key m q n (both .answer ∙ e)) (twins-noStep (Step s) m p q))
     (λ n m p k t kind e ih q l h.
-        let both = exec-agree (stepOf m key) p q _ l (rw (accesses-did key m p n e) at h) in
-        rw (run-did key m q n (both .answer ∙ e))
-        (same-completed t _ _ _ _ (ap writes (both .accesses))
-        (ih (oneStep key m q .pages)
-        (long-trans (long-sym (exec-long (stepOf m key) p)) (long-trans l (exec-long (stepOf m key) q)))
-        (both .agree))))
+    let both = exec-agree (stepOf m key) p q _ l (rw (accesses-did key m p n e) at h) in
+    rw (run-did key m q n (both .answer ∙ e))
+    (same-completed t _ _ _ _ (ap writes (both .accesses))
+    (ih (oneStep key m q .pages)
+    (long-trans (long-sym (exec-long (stepOf m key) p)) (long-trans l (exec-long (stepOf m key) q)))
+    (both .agree))))
     n m p q l h

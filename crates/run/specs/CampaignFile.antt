@@ -1,6 +1,6 @@
 -- Reading a campaign file (document 01, "Campaign file"). The file is a list of bytes, and the reading place is a number that goes in and
 -- comes back.
-use Prim.Native.Nat.{ℕ, zero, suc, _+_, _-_, _*_, _/_, _%_, _^_, _≤_}
+use Prim.Native.Nat.{ℕ, zero, suc, _+_, _-_, _*_, _/_, _%_, _^_, _≤_, _<_}
 use mathlib.Core.Bool.{Bool, true, false, cond, not, _&&_, _||_}
 use mathlib.Core.List.{List, [], _∷_, _++_}
 use lib.ListN.{length, take, drop}
@@ -48,6 +48,7 @@ abbrev pub onward : {A B : Type 0} → List ℕ → Field A → (A → Reader B)
 onward bytes (read a next) rest = rest a bytes next
 onward bytes (refused stop) rest = refused stop
 
+infixl 20 _>>=_
 abbrev pub _>>=_ : {A B : Type 0} → Reader A → (A → Reader B) → Reader B
 _>>=_ field rest = λ bytes at. onward bytes (field bytes at) rest
 
@@ -242,11 +243,19 @@ pub record Within (c : Contents) : Type 0 where
   pub page0 : length (c .page0) ≤ 16384
   pub page1 : length (c .page1) ≤ 16384
 
+-- a list of bytes, as every file is
+abbrev pub Bytes : List ℕ → Type 0
+Bytes [] = Unit {0}
+Bytes (byte ∷ bytes) = (byte < 256) × Bytes bytes
+
 -- what was read, with the bytes of the pages taken out of the file
 abbrev pub contentsOf : List ℕ → Parsed → Contents
 contentsOf bytes c = record {
-  cpu = c .cpu; settings = c .settings;
-  page0 = take (c .«page0_len») (drop (c .«page0_at») bytes); page1 = take (c .«page1_len») (drop (c .«page1_at») bytes) }
+  cpu = c .cpu;
+  settings = c .settings;
+  page0 = take (c .«page0_len») (drop (c .«page0_at») bytes);
+  page1 = take (c .«page1_len») (drop (c .«page1_at») bytes);
+}
 
 -- the contents of a file, or why it is turned down
 abbrev pub contentsField : List ℕ → Field Parsed → Field Contents

@@ -4,5 +4,7 @@ pub mod Reaches
 pub mod Demand
 pub mod Answers
 pub mod CampaignFile
+pub mod CampaignRefusals
 pub mod Line
 pub mod Report
+pub mod Marked

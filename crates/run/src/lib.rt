@@ -62,13 +62,7 @@ fn answered(cpu: Lh5801, first: u64, steps: u32, end: End) -> Answer
 }
 
 // Steps up to the limit, or to the first that stops.
-fn steps_of(
-    cpu: Lh5801,
-    page0: &mut [u8],
-    page1: &mut [u8],
-    keyboard: u8,
-    limit: u32,
-) -> Answer
+fn steps_of(cpu: Lh5801, page0: &mut [u8], page1: &mut [u8], keyboard: u8, limit: u32) -> Answer
     requires { ⌜ (cpu .tm < 512) × (limit ≤ 1000000) ⌝ }
     ensures { λ r. ⌜ Answers (runOf limit keyboard cpu (atEntry page0 page1)) r (atExit page0 page1) ⌝ }
 {

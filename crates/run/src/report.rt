@@ -53,7 +53,14 @@ fn answer_of(bytes: &[u8], c: Parsed) -> Answer
     copy_part(bytes, c.page1_at, &mut page1, c.page1_len);
     let cpu = c.cpu;
     let settings = c.settings;
-    run_parts(cpu, &mut page0, c.page0_len, &mut page1, c.page1_len, settings)
+    run_parts(
+        cpu,
+        &mut page0,
+        c.page0_len,
+        &mut page1,
+        c.page1_len,
+        settings,
+    )
 }
 
 // The line of a call.

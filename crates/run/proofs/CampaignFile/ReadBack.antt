@@ -5,7 +5,7 @@ use mathlib.Core.Path.{_≡_, refl, ap, sym, _∙_, subst}
 use mathlib.Core.Bool.{Bool, true, false, cond, not, _&&_, _||_}
 use mathlib.Core.List.{List, [], _∷_, _++_, append-assoc, append-nil}
 use mathlib.Core.Logic.{⊎-elim}
-use native.Mathlib.Nat.{pow-suc, add-zero, add-assoc}
+use native.Mathlib.Nat.{pow-suc, add-zero, zero-add, add-assoc}
 use native.Mathlib.Omega.{arith}
 use lib.ListN.{length, take, drop, length-append}
 use lib.Seq.{drop-at, take-at}
@@ -14,6 +14,14 @@ use borrow.Author.Tests.{lt-ltb, le-ltb, le-leb, lt-leb, eq-eqb, ne-eqb}
 use Rattle.run.specs.CampaignFile.{Groups, ends, over, whole, group, groups, groupsOf, Field, read, refused, Reader, onward, _>>=_, given, judged, shortestOf, numberFrom, numberOf, numberBytes, numbersBytes, pageBytes}
 use Rattle.run.specs.CampaignFile.{registersOf, wordsOf, timingOf, settingsOf, bytesOf, pageOf, flagAt, flagsOf, cpuOf, partsOf, ended, campaignOf, Contents, fieldsOf, written, Within, contentsOf, contentsField, contents}
 use Rattle.run.specs.declared.campaign_file.Refusal.the-variants.{Ends, Unfit}
+use Rattle.run.specs.declared.campaign_file.Registers.{Registers}
+use Rattle.run.specs.declared.campaign_file.Words.{Words}
+use Rattle.run.specs.declared.campaign_file.Timing.{Timing}
+use Rattle.run.specs.declared.campaign_file.Page.{Page}
+use Rattle.run.specs.declared.campaign_file.Parsed.{Parsed}
+use Rattle.run.specs.declared.Settings.{Settings}
+use Rattle.arithmetic.specs.declared.record.Lh5801.{Lh5801}
+use Rattle.arithmetic.specs.Flags.{bitOf}
 use Rattle.run.proofs.CampaignFile.Groups.{lt-or-ge}
 
 -- ---- the groups of a number that was written
@@ -47,6 +55,7 @@ written-groups (suc left) value after h =
         → groups (suc (suc left)) (groupsOf (suc (suc left)) value ++ after)
         ≡ whole value (length (groupsOf (suc (suc left)) value)) (lastGroup (suc left) value)
     one g = rw (lt-ltb value 128 g, lt-leb 128 value g, last-first (suc left) value g)
+
     several : groups (suc left) (groupsOf (suc left) (value / 128) ++ after)
         ≡ whole (value / 128) (length (groupsOf (suc left) (value / 128))) (lastGroup left (value / 128))
         → 128 ≤ value
@@ -64,6 +73,7 @@ last-positive (suc left) value low h =
   where
     one : value < 128 → 1 ≤ lastGroup (suc left) value
     one g = rw (last-first (suc left) value g) low
+
     several : 128 ≤ value → 1 ≤ lastGroup left (value / 128) → 1 ≤ lastGroup (suc left) value
     several g rest = rw (last-later left value g) rest
 
@@ -76,6 +86,7 @@ written-shortest value h = ⊎-elim one several (lt-or-ge value 128)
   where
     one : value < 128 → shortestOf (length (groupsOf 10 value)) (lastGroup 9 value) ≡ true
     one g = rw (lt-ltb value 128 g)
+
     several : 128 ≤ value → shortestOf (length (groupsOf 10 value)) (lastGroup 9 value) ≡ true
     several g =
         let low : 1 ≤ lastGroup 9 value = last-positive 9 value (omega arith) h in
@@ -83,15 +94,271 @@ written-shortest value h = ⊎-elim one several (lt-or-ge value 128)
 
 -- ---- a reader reads back what was written, wherever that stands in the file
 
-abbrev pub ReadsBack : {A : Type 0} → Reader A → ℕ → List ℕ → A → Type 0
-ReadsBack {A} reader at bytes value = (before after : List ℕ) → length before ≡ at → reader (before ++ (bytes ++ after)) at ≡ read value (at + length bytes)
+pub record ReadsBack {A : Type 0} (reader : Reader A) (at : ℕ) (bytes : List ℕ) (value : A) : Type 0 where
+  pub back : (before after : List ℕ) → length before ≡ at → reader (before ++ (bytes ++ after)) at ≡ read value (at + length bytes)
 
 -- the same at the end of the file
-abbrev pub ReadsBackLast : {A : Type 0} → Reader A → ℕ → List ℕ → A → Type 0
-ReadsBackLast {A} reader at bytes value = (before : List ℕ) → length before ≡ at → reader (before ++ bytes) at ≡ read value (at + length bytes)
+pub record ReadsBackLast {A : Type 0} (reader : Reader A) (at : ℕ) (bytes : List ℕ) (value : A) : Type 0 where
+  pub back : (before : List ℕ) → length before ≡ at → reader (before ++ bytes) at ≡ read value (at + length bytes)
 
 pub number-back : (greatest at value : ℕ) → value ≤ greatest → greatest < 2 ^ 64 → ReadsBack (numberOf greatest) at (numberBytes value) value
 unfolding numberOf numberBytes
-number-back greatest at value h top before after e =
-    let small : value < 128 ^ 10 = omega arith in
-    rw (drop-at before (groupsOf 10 value ++ after) at e, written-groups 9 value after small, written-shortest value small, le-leb value greatest h)
+number-back greatest at value h top = record {
+  back = λ before after e.
+      let small : value < 128 ^ 10 = omega arith in
+      rw (drop-at before (groupsOf 10 value ++ after) at e, written-groups 9 value after small, written-shortest value small, le-leb value greatest h);
+}
+
+long : (before first : List ℕ) (at : ℕ) → length before ≡ at → length (before ++ first) ≡ at + length first
+long before first at e = length-append before first ∙ ap (λ (n : ℕ). n + length first) e
+
+module _ {A B : Type 0} {reader : Reader A} (rest : A → Reader B) {at : ℕ} {first later : List ℕ} {a : A} {b : B} where
+  pub then-back : ReadsBack reader at first a → ReadsBack (rest a) (at + length first) later b → ReadsBack (reader >>= rest) at (first ++ later) b
+  then-back p q = record {
+    back = λ before after e.
+        rw (
+          append-assoc first later after,
+          p .back before (later ++ after) e,
+          length-append first later,
+          ← add-assoc at (length first) (length later),
+          ← append-assoc before first (later ++ after),
+        )
+        (q .back (before ++ first) after (long before first at e));
+  }
+
+  pub then-back-last : ReadsBack reader at first a → ReadsBackLast (rest a) (at + length first) later b → ReadsBackLast (reader >>= rest) at (first ++ later) b
+  then-back-last p q = record {
+    back = λ before e.
+        rw (p .back before later e, length-append first later, ← add-assoc at (length first) (length later), ← append-assoc before first later)
+        (q .back (before ++ first) (long before first at e));
+  }
+
+given-back : {A : Type 0} (at : ℕ) (a : A) → ReadsBack (given a) at [] a
+given-back at a = record { back = λ before after e. rw add-zero }
+
+field-back : {B : Type 0} (rest : ℕ → Reader B) {at : ℕ} {later : List ℕ} {b : B} (greatest value : ℕ) → value ≤ greatest → greatest < 2 ^ 64
+    → ReadsBack (rest value) (at + length (numberBytes value)) later b → ReadsBack (numberOf greatest >>= rest) at (numberBytes value ++ later) b
+field-back {B} rest {at} {later} {b} greatest value h top q = then-back rest (number-back greatest at value h top) q
+
+-- ---- the fields
+
+registers-back : (r : Registers) (at : ℕ) → r .a ≤ 255 → r .t ≤ 255 → ReadsBack registersOf at (numbersBytes (r .a ∷ r .t ∷ [])) r
+unfolding registersOf
+registers-back r at ha ht = field-back _ 255 (r .a) ha (omega arith) (field-back _ 255 (r .t) ht (omega arith) (given-back _ r))
+
+words-back : (w : Words) (at : ℕ) → w .x ≤ 65535 → w .y ≤ 65535 → w .u ≤ 65535 → w .s ≤ 65535 → w .p ≤ 65535
+    → ReadsBack wordsOf at (numbersBytes (w .x ∷ w .y ∷ w .u ∷ w .s ∷ w .p ∷ [])) w
+unfolding wordsOf
+words-back w at hx hy hu hs hp =
+    field-back _ 65535 (w .x) hx (omega arith)
+    (field-back _ 65535 (w .y) hy (omega arith)
+    (field-back _ 65535 (w .u) hu (omega arith)
+    (field-back _ 65535 (w .s) hs (omega arith)
+    (field-back _ 65535 (w .p) hp (omega arith) (given-back _ w)))))
+
+timing-back : (t : Timing) (at : ℕ) → t .tm ≤ 4095 → t .flags ≤ 511 → t .«timer_state» ≤ 2 ^ 64 - 1 → t .«step_previous_state» ≤ 2 ^ 64 - 1 → t .ticks ≤ 2 ^ 64 - 1
+    → ReadsBack timingOf at (numbersBytes (t .tm ∷ t .flags ∷ t .«timer_state» ∷ t .«step_previous_state» ∷ t .ticks ∷ [])) t
+unfolding timingOf
+timing-back t at h1 h2 h3 h4 h5 =
+    field-back _ 4095 (t .tm) h1 (omega arith)
+    (field-back _ 511 (t .flags) h2 (omega arith)
+    (field-back _ (2 ^ 64 - 1) (t .«timer_state») h3 (omega arith)
+    (field-back _ (2 ^ 64 - 1) (t .«step_previous_state») h4 (omega arith)
+    (field-back _ (2 ^ 64 - 1) (t .ticks) h5 (omega arith) (given-back _ t)))))
+
+settings-back : (s : Settings) (at : ℕ) → s .keyboard ≤ 255 → s .limit ≤ 2 ^ 32 - 1 → ReadsBack settingsOf at (numbersBytes (s .keyboard ∷ s .limit ∷ [])) s
+unfolding settingsOf
+settings-back s at h1 h2 =
+    field-back _ 255 (s .keyboard) h1 (omega arith) (field-back _ (2 ^ 32 - 1) (s .limit) h2 (omega arith) (given-back _ s))
+
+-- where a page's bytes begin, after its length
+abbrev placeOf : ℕ → List ℕ → Page
+placeOf at page = record { at = at + length (numberBytes (length page)); len = length page }
+
+bytes-back : (at : ℕ) (page : List ℕ) → ReadsBack (bytesOf (length page)) at page (record { at = at; len = length page })
+unfolding bytesOf
+bytes-back at page = record {
+  back = λ before after e.
+      let size : length (before ++ (page ++ after)) ≡ length before + (length page + length after) = length-append before (page ++ after) ∙ rw (length-append page after) in
+      rw (le-ltb (length (before ++ (page ++ after))) (at + length page) (omega arith));
+}
+
+page-back : (at : ℕ) (page : List ℕ) → length page ≤ 16384 → ReadsBack pageOf at (pageBytes page) (placeOf at page)
+unfolding pageOf
+page-back at page h = field-back _ 16384 (length page) h (omega arith) (bytes-back _ page)
+
+ended-back : (c : Parsed) (at : ℕ) → ReadsBackLast (ended c) at [] c
+unfolding ended
+ended-back c at = record { back = λ before e. rw (append-nil before, le-ltb at (length before) (omega arith), add-zero) }
+
+-- ---- the flags
+
+bit-is : (b : Bool) → eqb (bitOf b) 1 ≡ b
+bit-is true = refl
+bit-is false = refl
+
+bit-small : (b : Bool) → bitOf b ≤ 1
+bit-small true = omega arith
+bit-small false = omega arith
+
+flags-small : (m : Lh5801) → flagsOf m ≤ 511
+unfolding flagsOf
+flags-small m =
+    omega (arith, bit-small (m .«is_halted»), bit-small (m .pu), bit-small (m .pv), bit-small (m .bf), bit-small (m .disp), bit-small (m .ir0), bit-small (m .ir1), bit-small (m .ir2), bit-small (m .«is_timer_reached»))
+
+-- the bits of a number that was put together from bits
+module _ (b0 b1 b2 b3 b4 b5 b6 b7 b8 : ℕ) (h0 : b0 ≤ 1) (h1 : b1 ≤ 1) (h2 : b2 ≤ 1) (h3 : b3 ≤ 1) (h4 : b4 ≤ 1) (h5 : b5 ≤ 1) (h6 : b6 ≤ 1) (h7 : b7 ≤ 1) (h8 : b8 ≤ 1) where
+  abbrev all : ℕ
+  all = b0 + 2 * b1 + 4 * b2 + 8 * b3 + 16 * b4 + 32 * b5 + 64 * b6 + 128 * b7 + 256 * b8
+
+  is0 : all % 2 ≡ b0
+  is0 = omega arith
+
+  is1 : all / 2 % 2 ≡ b1
+  is1 = omega arith
+
+  is2 : all / 4 % 2 ≡ b2
+  is2 = omega arith
+
+  is3 : all / 8 % 2 ≡ b3
+  is3 = omega arith
+
+  is4 : all / 16 % 2 ≡ b4
+  is4 = omega arith
+
+  is5 : all / 32 % 2 ≡ b5
+  is5 = omega arith
+
+  is6 : all / 64 % 2 ≡ b6
+  is6 = omega arith
+
+  is7 : all / 128 % 2 ≡ b7
+  is7 = omega arith
+
+  is8 : all / 256 % 2 ≡ b8
+  is8 = omega arith
+
+-- each flag comes back
+module _ (m : Lh5801) where
+  flag0 : eqb (flagsOf m % 2) 1 ≡ m .«is_halted»
+  unfolding flagsOf
+  flag0 = ap (λ (n : ℕ). eqb n 1) (is0 (bitOf (m .«is_halted»)) (bitOf (m .pu)) (bitOf (m .pv)) (bitOf (m .bf)) (bitOf (m .disp)) (bitOf (m .ir0)) (bitOf (m .ir1)) (bitOf (m .ir2)) (bitOf (m .«is_timer_reached»)) (bit-small (m .«is_halted»)) (bit-small (m .pu)) (bit-small (m .pv)) (bit-small (m .bf)) (bit-small (m .disp)) (bit-small (m .ir0)) (bit-small (m .ir1)) (bit-small (m .ir2)) (bit-small (m .«is_timer_reached»))) ∙ bit-is (m .«is_halted»)
+
+  flag1 : eqb (flagsOf m / 2 % 2) 1 ≡ m .pu
+  unfolding flagsOf
+  flag1 = ap (λ (n : ℕ). eqb n 1) (is1 (bitOf (m .«is_halted»)) (bitOf (m .pu)) (bitOf (m .pv)) (bitOf (m .bf)) (bitOf (m .disp)) (bitOf (m .ir0)) (bitOf (m .ir1)) (bitOf (m .ir2)) (bitOf (m .«is_timer_reached»)) (bit-small (m .«is_halted»)) (bit-small (m .pu)) (bit-small (m .pv)) (bit-small (m .bf)) (bit-small (m .disp)) (bit-small (m .ir0)) (bit-small (m .ir1)) (bit-small (m .ir2)) (bit-small (m .«is_timer_reached»))) ∙ bit-is (m .pu)
+
+  flag2 : eqb (flagsOf m / 4 % 2) 1 ≡ m .pv
+  unfolding flagsOf
+  flag2 = ap (λ (n : ℕ). eqb n 1) (is2 (bitOf (m .«is_halted»)) (bitOf (m .pu)) (bitOf (m .pv)) (bitOf (m .bf)) (bitOf (m .disp)) (bitOf (m .ir0)) (bitOf (m .ir1)) (bitOf (m .ir2)) (bitOf (m .«is_timer_reached»)) (bit-small (m .«is_halted»)) (bit-small (m .pu)) (bit-small (m .pv)) (bit-small (m .bf)) (bit-small (m .disp)) (bit-small (m .ir0)) (bit-small (m .ir1)) (bit-small (m .ir2)) (bit-small (m .«is_timer_reached»))) ∙ bit-is (m .pv)
+
+  flag3 : eqb (flagsOf m / 8 % 2) 1 ≡ m .bf
+  unfolding flagsOf
+  flag3 = ap (λ (n : ℕ). eqb n 1) (is3 (bitOf (m .«is_halted»)) (bitOf (m .pu)) (bitOf (m .pv)) (bitOf (m .bf)) (bitOf (m .disp)) (bitOf (m .ir0)) (bitOf (m .ir1)) (bitOf (m .ir2)) (bitOf (m .«is_timer_reached»)) (bit-small (m .«is_halted»)) (bit-small (m .pu)) (bit-small (m .pv)) (bit-small (m .bf)) (bit-small (m .disp)) (bit-small (m .ir0)) (bit-small (m .ir1)) (bit-small (m .ir2)) (bit-small (m .«is_timer_reached»))) ∙ bit-is (m .bf)
+
+  flag4 : eqb (flagsOf m / 16 % 2) 1 ≡ m .disp
+  unfolding flagsOf
+  flag4 = ap (λ (n : ℕ). eqb n 1) (is4 (bitOf (m .«is_halted»)) (bitOf (m .pu)) (bitOf (m .pv)) (bitOf (m .bf)) (bitOf (m .disp)) (bitOf (m .ir0)) (bitOf (m .ir1)) (bitOf (m .ir2)) (bitOf (m .«is_timer_reached»)) (bit-small (m .«is_halted»)) (bit-small (m .pu)) (bit-small (m .pv)) (bit-small (m .bf)) (bit-small (m .disp)) (bit-small (m .ir0)) (bit-small (m .ir1)) (bit-small (m .ir2)) (bit-small (m .«is_timer_reached»))) ∙ bit-is (m .disp)
+
+  flag5 : eqb (flagsOf m / 32 % 2) 1 ≡ m .ir0
+  unfolding flagsOf
+  flag5 = ap (λ (n : ℕ). eqb n 1) (is5 (bitOf (m .«is_halted»)) (bitOf (m .pu)) (bitOf (m .pv)) (bitOf (m .bf)) (bitOf (m .disp)) (bitOf (m .ir0)) (bitOf (m .ir1)) (bitOf (m .ir2)) (bitOf (m .«is_timer_reached»)) (bit-small (m .«is_halted»)) (bit-small (m .pu)) (bit-small (m .pv)) (bit-small (m .bf)) (bit-small (m .disp)) (bit-small (m .ir0)) (bit-small (m .ir1)) (bit-small (m .ir2)) (bit-small (m .«is_timer_reached»))) ∙ bit-is (m .ir0)
+
+  flag6 : eqb (flagsOf m / 64 % 2) 1 ≡ m .ir1
+  unfolding flagsOf
+  flag6 = ap (λ (n : ℕ). eqb n 1) (is6 (bitOf (m .«is_halted»)) (bitOf (m .pu)) (bitOf (m .pv)) (bitOf (m .bf)) (bitOf (m .disp)) (bitOf (m .ir0)) (bitOf (m .ir1)) (bitOf (m .ir2)) (bitOf (m .«is_timer_reached»)) (bit-small (m .«is_halted»)) (bit-small (m .pu)) (bit-small (m .pv)) (bit-small (m .bf)) (bit-small (m .disp)) (bit-small (m .ir0)) (bit-small (m .ir1)) (bit-small (m .ir2)) (bit-small (m .«is_timer_reached»))) ∙ bit-is (m .ir1)
+
+  flag7 : eqb (flagsOf m / 128 % 2) 1 ≡ m .ir2
+  unfolding flagsOf
+  flag7 = ap (λ (n : ℕ). eqb n 1) (is7 (bitOf (m .«is_halted»)) (bitOf (m .pu)) (bitOf (m .pv)) (bitOf (m .bf)) (bitOf (m .disp)) (bitOf (m .ir0)) (bitOf (m .ir1)) (bitOf (m .ir2)) (bitOf (m .«is_timer_reached»)) (bit-small (m .«is_halted»)) (bit-small (m .pu)) (bit-small (m .pv)) (bit-small (m .bf)) (bit-small (m .disp)) (bit-small (m .ir0)) (bit-small (m .ir1)) (bit-small (m .ir2)) (bit-small (m .«is_timer_reached»))) ∙ bit-is (m .ir2)
+
+  flag8 : eqb (flagsOf m / 256 % 2) 1 ≡ m .«is_timer_reached»
+  unfolding flagsOf
+  flag8 = ap (λ (n : ℕ). eqb n 1) (is8 (bitOf (m .«is_halted»)) (bitOf (m .pu)) (bitOf (m .pv)) (bitOf (m .bf)) (bitOf (m .disp)) (bitOf (m .ir0)) (bitOf (m .ir1)) (bitOf (m .ir2)) (bitOf (m .«is_timer_reached»)) (bit-small (m .«is_halted»)) (bit-small (m .pu)) (bit-small (m .pv)) (bit-small (m .bf)) (bit-small (m .disp)) (bit-small (m .ir0)) (bit-small (m .ir1)) (bit-small (m .ir2)) (bit-small (m .«is_timer_reached»))) ∙ bit-is (m .«is_timer_reached»)
+
+abbrev registersOfCpu : Lh5801 → Registers
+registersOfCpu m = record { a = m .a; t = m .t }
+
+abbrev wordsOfCpu : Lh5801 → Words
+wordsOfCpu m = record { x = m .x; y = m .y; u = m .u; s = m .s; p = m .p }
+
+abbrev timingOfCpu : Lh5801 → Timing
+timingOfCpu m = record { tm = m .tm; flags = flagsOf m; «timer_state» = m .«timer_state»; «step_previous_state» = m .«step_previous_state»; ticks = m .ticks }
+
+cpu-back : (m : Lh5801) → cpuOf (registersOfCpu m) (wordsOfCpu m) (timingOfCpu m) ≡ m
+unfolding cpuOf
+cpu-back m = rw (flag0 m, flag1 m, flag2 m, flag3 m, flag4 m, flag5 m, flag6 m, flag7 m, flag8 m)
+
+-- ---- the whole file
+
+page-there : (before page after file : List ℕ) (at : ℕ) → file ≡ before ++ (page ++ after) → length before ≡ at → take (length page) (drop at file) ≡ page
+page-there before page after file at is long = rw (is, drop-at before (page ++ after) at long) (take-at page after (length page) refl)
+
+sizes : (r w t s n : List ℕ) → length (r ++ (w ++ (t ++ (s ++ n)))) ≡ 0 + length r + length w + length t + length s + length n
+sizes r w t s n = simp length-append (omega arith)
+
+module _ (c : Contents) where
+  abbrev partR : List ℕ
+  partR = numbersBytes (c .cpu .a ∷ c .cpu .t ∷ [])
+
+  abbrev partW : List ℕ
+  partW = numbersBytes (c .cpu .x ∷ c .cpu .y ∷ c .cpu .u ∷ c .cpu .s ∷ c .cpu .p ∷ [])
+
+  abbrev partT : List ℕ
+  partT = numbersBytes (c .cpu .tm ∷ flagsOf (c .cpu) ∷ c .cpu .«timer_state» ∷ c .cpu .«step_previous_state» ∷ c .cpu .ticks ∷ [])
+
+  abbrev partS : List ℕ
+  partS = numbersBytes (c .settings .keyboard ∷ c .settings .limit ∷ [])
+
+  -- where the two pages' lengths begin
+  abbrev start0 : ℕ
+  start0 = 0 + length partR + length partW + length partT + length partS
+
+  abbrev start1 : ℕ
+  start1 = start0 + length (pageBytes (c .page0))
+
+  abbrev pub parsedBack : Parsed
+  parsedBack =
+      partsOf (cpuOf (registersOfCpu (c .cpu)) (wordsOfCpu (c .cpu)) (timingOfCpu (c .cpu))) (c .settings) (placeOf start0 (c .page0)) (placeOf start1 (c .page1))
+
+  in-parts : written c ≡ partR ++ (partW ++ (partT ++ (partS ++ (pageBytes (c .page0) ++ (pageBytes (c .page1) ++ [])))))
+  unfolding written
+  in-parts = simp (append-assoc, append-nil)
+
+  first-page : written c ≡ (partR ++ (partW ++ (partT ++ (partS ++ numberBytes (length (c .page0)))))) ++ (c .page0 ++ pageBytes (c .page1))
+  unfolding written
+  first-page = simp (append-assoc, append-nil)
+
+  second-page : written c ≡ (partR ++ (partW ++ (partT ++ (partS ++ (pageBytes (c .page0) ++ numberBytes (length (c .page1))))))) ++ (c .page1 ++ [])
+  unfolding written
+  second-page = simp (append-assoc, append-nil)
+
+  campaign-back : Within c → ReadsBackLast campaignOf 0 (partR ++ (partW ++ (partT ++ (partS ++ (pageBytes (c .page0) ++ (pageBytes (c .page1) ++ [])))))) parsedBack
+  unfolding campaignOf
+  campaign-back h =
+      then-back-last _ (registers-back (registersOfCpu (c .cpu)) 0 (h .a) (h .t))
+      (then-back-last _ (words-back (wordsOfCpu (c .cpu)) _ (h .x) (h .y) (h .u) (h .s) (h .p))
+      (then-back-last _ (timing-back (timingOfCpu (c .cpu)) _ (h .tm) (flags-small (c .cpu)) (h .states) (h .previous) (h .ticks))
+      (then-back-last _ (settings-back (c .settings) _ (h .keyboard) (h .limit))
+      (then-back-last _ (page-back start0 (c .page0) (h .page0))
+      (then-back-last _ (page-back start1 (c .page1) (h .page1))
+      (ended-back parsedBack _))))))
+
+  page0-back : take (length (c .page0)) (drop (placeOf start0 (c .page0) .at) (written c)) ≡ c .page0
+  page0-back =
+      page-there (partR ++ (partW ++ (partT ++ (partS ++ numberBytes (length (c .page0)))))) (c .page0) (pageBytes (c .page1)) (written c) (placeOf start0 (c .page0) .at)
+      first-page (sizes partR partW partT partS (numberBytes (length (c .page0))))
+
+  page1-back : take (length (c .page1)) (drop (placeOf start1 (c .page1) .at) (written c)) ≡ c .page1
+  page1-back =
+      page-there (partR ++ (partW ++ (partT ++ (partS ++ (pageBytes (c .page0) ++ numberBytes (length (c .page1))))))) (c .page1) [] (written c)
+      (placeOf start1 (c .page1) .at) second-page
+      (sizes partR partW partT partS (pageBytes (c .page0) ++ numberBytes (length (c .page1)))
+      ∙ rw (length-append (pageBytes (c .page0)) (numberBytes (length (c .page1)))) (sym (add-assoc start0 (length (pageBytes (c .page0))) (length (numberBytes (length (c .page1)))))))
+
+  -- "writing a campaign and reading it back is the identity"
+  pub read-back : Within c → contents (written c) ≡ read c (length (written c))
+  unfolding contents
+  read-back h =
+      let whole-file : campaignOf (written c) 0 ≡ read parsedBack (0 + length (written c)) = rw in-parts (campaign-back h .back [] refl) in
+      rw (whole-file, zero-add (length (written c)), cpu-back (c .cpu), page0-back, page1-back)

@@ -5,9 +5,9 @@ use mathlib.Core.Path.{_≡_, refl, ap, sym, _∙_}
 use mathlib.Core.Bool.{Bool, true, false, cond}
 use mathlib.Core.List.{List, [], _∷_, _++_, append-assoc}
 use mathlib.Core.Logic.{⊎-elim}
-use native.Mathlib.Nat.{add-zero, add-suc, suc-add, pow-suc}
+use native.Mathlib.Nat.{add-zero, pow-suc}
 use native.Mathlib.Omega.{arith}
-use lib.ListN.{length, take, drop, set, length-append}
+use lib.ListN.{length, drop, set, length-append}
 use lib.Seq.{sets, length-sets, sets-eq, take-at, drop-at}
 use lib.Dec.{ltb}
 use borrow.Author.Tests.{lt-ltb, le-ltb}

@@ -1,10 +1,10 @@
 -- What a refusal of a campaign file says (document 01, "What a call tells": 8, 9 and 10), in terms of the file's bytes. Fields are read from
 -- left to right, so the first that cannot be read decides.
-use Prim.Native.Nat.{ℕ, zero, suc, _+_, _-_, _^_, _<_, _≤_}
+use Prim.Native.Nat.{ℕ, suc, _+_, _-_, _^_, _<_, _≤_}
 use mathlib.Core.Path.{_≡_}
 use mathlib.Core.List.{List, [], _∷_}
 use lib.ListN.{length, drop, getD}
-use Rattle.run.specs.CampaignFile.{Groups, whole, groups, Field, read, numberOf}
+use Rattle.run.specs.CampaignFile.{whole, groups, read, numberOf}
 use Rattle.run.specs.declared.campaign_file.Refusal.{Refusal}
 use Rattle.run.specs.declared.campaign_file.Refusal.the-variants.{Ends, Unfit, LeftOver}
 

@@ -1,6 +1,6 @@
 -- The printed line (document 01, "Campaign file"): "number, steps, states; A T (2 hex digits) X Y U S P (4) TM flags (3); timer states,
 -- previous, ticks. Hex digits are capitals, the rest decimal; a newline ends the line. For 8 to 10: number and offset."
-use Prim.Native.Nat.{ℕ, zero, suc, _+_, _*_, _/_, _%_}
+use Prim.Native.Nat.{ℕ, zero, suc, _+_, _/_, _%_}
 use mathlib.Core.Path.{_≡_}
 use mathlib.Core.Bool.{cond}
 use mathlib.Core.List.{List, [], _∷_, _++_}

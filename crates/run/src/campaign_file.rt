@@ -1,7 +1,7 @@
 // Document 01's campaign file: a record, the settings and the two pages of one call, as bytes.
 // The reading place goes in by value, as a `Cursor`, and comes back; each field is either read with its next place or turned down.
 ghost use mathlib.Core.Path.{_≡_};
-ghost use Rattle.run.specs.CampaignFile.{judged, numberOf, registersOf, wordsOf, timingOf, settingsOf, bytesOf, pageOf, cpuOf, partsOf, campaignOf};
+ghost use Rattle.run.specs.CampaignFile.{judged, numberOf, registersOf, wordsOf, timingOf, settingsOf, pageOf, cpuOf, partsOf, campaignOf};
 ghost use Rattle.run.specs.CampaignFile.{refusalNumber, refusalOffset, numberAnswer, registersAnswer, wordsAnswer, timingAnswer, settingsAnswer, pageAnswer, campaignAnswer};
 ghost use Rattle.run.specs.CampaignFile.{numberStop, registersStop, wordsStop, timingStop, settingsStop, pageStop};
 use crate::Settings;

@@ -2,18 +2,17 @@
 -- Assumes nothing.
 use Prim.Native.Nat.{ℕ, zero, suc, _+_, _-_, _*_, _/_, _%_, _^_, _<_, _≤_}
 use mathlib.Core.Path.{_≡_, refl, ap, ap₂, sym, subst₂, _∙_}
-use mathlib.Core.Bool.{Bool, true, false, cond, not, _&&_, _||_}
+use mathlib.Core.Bool.{Bool, true, false, cond, not, _||_}
 use mathlib.Core.List.{List, [], _∷_, _++_, append-assoc, append-nil}
 use native.Mathlib.Omega.{arith}
-use lib.ListN.{length, take, drop, length-append, length-take, length-drop, take-append-drop, drop-of-length-le}
+use lib.ListN.{length, take, drop, length-drop, take-append-drop, drop-of-length-le}
 use lib.Seq.{drop-drop, length-take-le}
 use lib.Dec.{leb, ltb, eqb}
-use borrow.Author.Tests.{ltb-true, ltb-false, leb-true, leb-false, eqb-true, eqb-false, lt-ltb, le-ltb, le-leb, lt-leb, eq-eqb, ne-eqb}
-use Rattle.arithmetic.specs.declared.record.Lh5801.{Lh5801}
+use borrow.Author.Tests.{ltb-false, leb-true, leb-false, eqb-false, lt-ltb, le-ltb, ne-eqb}
 use Rattle.arithmetic.specs.Flags.{bitOf}
-use Rattle.run.specs.CampaignFile.{Groups, ends, over, whole, group, groups, groupsOf, Field, read, refused, Reader, onward, _>>=_, given, judged, shortestOf, numberFrom, numberOf, numberBytes, numbersBytes, pageBytes, Bytes}
-use Rattle.run.specs.CampaignFile.{registersOf, wordsOf, timingOf, settingsOf, bytesOf, pageOf, flagAt, flagsOf, cpuOf, partsOf, ended, campaignOf, Contents, fieldsOf, written, Within, contentsOf, contentsField, contents}
-use Rattle.run.specs.declared.campaign_file.Refusal.the-variants.{Ends, Unfit, LeftOver}
+use Rattle.run.specs.CampaignFile.{Groups, ends, over, whole, group, groups, groupsOf, Field, read, refused, Reader, onward, shortestOf, numberOf, numberBytes, numbersBytes, pageBytes, Bytes}
+use Rattle.run.specs.CampaignFile.{registersOf, wordsOf, timingOf, settingsOf, bytesOf, pageOf, flagsOf, cpuOf, partsOf, ended, campaignOf, Contents, written, Within, contentsOf, contentsField, contents}
+use Rattle.run.specs.declared.campaign_file.Refusal.the-variants.{Ends, LeftOver}
 use Rattle.run.specs.declared.campaign_file.Registers.{Registers}
 use Rattle.run.specs.declared.campaign_file.Words.{Words}
 use Rattle.run.specs.declared.campaign_file.Timing.{Timing}

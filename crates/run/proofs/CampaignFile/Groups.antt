@@ -2,9 +2,9 @@
 -- Assumes nothing.
 use Prim.Native.Nat.{ℕ, zero, suc, _+_, _-_, _*_, _%_, _^_, _<_, _≤_}
 use mathlib.Core.Path.{_≡_, refl, ap, sym, _∙_}
-use mathlib.Core.Bool.{Bool, true, false, cond, not, _&&_, _||_}
-use mathlib.Core.List.{List, [], _∷_}
-use native.Mathlib.Nat.{mul-add, mul-assoc, add-assoc, pow-suc, pow-le-pow-right, mul-le-mul-left, lt-irrefl}
+use mathlib.Core.Bool.{Bool, true, false, cond, not, _||_}
+use mathlib.Core.List.{List}
+use native.Mathlib.Nat.{mul-add, mul-assoc, add-assoc, pow-suc, pow-le-pow-right, mul-le-mul-left}
 use native.Mathlib.Numerals.{add-one}
 use native.Mathlib.Omega.{arith}
 use mathlib.Core.Logic.{_⊎_, inl, inr, ⊎-elim}
@@ -12,7 +12,7 @@ use lib.ListN.{length, drop, getD, drop-of-length-le}
 use lib.Seq.{drop-cons}
 use lib.Dec.{leb, ltb, eqb, lit<}
 use borrow.Author.Tests.{ltb-true, ltb-false, le-leb, lt-leb, eq-eqb, ne-eqb}
-use Rattle.run.specs.CampaignFile.{Groups, ends, over, whole, group, groups, Field, read, refused, judged, shortestOf, numberFrom, numberOf}
+use Rattle.run.specs.CampaignFile.{Groups, ends, over, whole, group, groups, refused, judged, numberOf}
 use Rattle.run.specs.declared.campaign_file.Refusal.the-variants.{Ends, Unfit}
 
 pub lt-or-ge : (a b : ℕ) → (a < b) ⊎ (b ≤ a)

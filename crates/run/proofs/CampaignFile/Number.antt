@@ -1,14 +1,14 @@
 -- What a number that was read tells: its groups, its bounds and its next place. What one that is turned down tells.
 -- Assumes nothing.
-use Prim.Native.Nat.{ℕ, zero, suc, _+_, _-_, _*_, _%_, _^_, _<_, _≤_}
+use Prim.Native.Nat.{ℕ, zero, suc, _+_, _-_, _<_, _≤_}
 use mathlib.Core.Path.{_≡_, refl, ap, sym, _∙_}
-use mathlib.Core.Bool.{Bool, true, false, cond, not, _&&_, _||_}
+use mathlib.Core.Bool.{Bool, true, false, cond, _&&_}
 use mathlib.Core.List.{List, [], _∷_}
 use native.Mathlib.Omega.{arith}
 use lib.ListN.{length, drop, length-drop}
-use lib.Dec.{leb, eqb}
-use borrow.Author.Tests.{leb-true, leb-false}
-use Rattle.run.specs.CampaignFile.{Groups, ends, over, whole, group, groups, Field, read, refused, judged, shortestOf, numberFrom, numberOf}
+use lib.Dec.{leb}
+use borrow.Author.Tests.{leb-true}
+use Rattle.run.specs.CampaignFile.{Groups, ends, over, whole, group, groups, Field, read, refused, shortestOf, numberFrom, numberOf}
 use Rattle.run.specs.declared.campaign_file.Refusal.the-variants.{Ends, Unfit}
 
 -- two different answers

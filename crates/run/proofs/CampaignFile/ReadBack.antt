@@ -1,19 +1,18 @@
 -- A campaign file that was written from contents within their bounds is read back as these contents.
 -- Assumes nothing.
 use Prim.Native.Nat.{ℕ, zero, suc, _+_, _-_, _*_, _/_, _%_, _^_, _<_, _≤_}
-use mathlib.Core.Path.{_≡_, refl, ap, sym, _∙_, subst}
-use mathlib.Core.Bool.{Bool, true, false, cond, not, _&&_, _||_}
+use mathlib.Core.Path.{_≡_, refl, ap, sym, _∙_}
+use mathlib.Core.Bool.{Bool, true, false, cond, _||_}
 use mathlib.Core.List.{List, [], _∷_, _++_, append-assoc, append-nil}
 use mathlib.Core.Logic.{⊎-elim}
 use native.Mathlib.Nat.{pow-suc, add-zero, zero-add, add-assoc}
 use native.Mathlib.Omega.{arith}
 use lib.ListN.{length, take, drop, length-append}
 use lib.Seq.{drop-at, take-at}
-use lib.Dec.{leb, ltb, eqb}
-use borrow.Author.Tests.{lt-ltb, le-ltb, le-leb, lt-leb, eq-eqb, ne-eqb}
-use Rattle.run.specs.CampaignFile.{Groups, ends, over, whole, group, groups, groupsOf, Field, read, refused, Reader, onward, _>>=_, given, judged, shortestOf, numberFrom, numberOf, numberBytes, numbersBytes, pageBytes}
-use Rattle.run.specs.CampaignFile.{registersOf, wordsOf, timingOf, settingsOf, bytesOf, pageOf, flagAt, flagsOf, cpuOf, partsOf, ended, campaignOf, Contents, fieldsOf, written, Within, contentsOf, contentsField, contents}
-use Rattle.run.specs.declared.campaign_file.Refusal.the-variants.{Ends, Unfit}
+use lib.Dec.{ltb, eqb}
+use borrow.Author.Tests.{lt-ltb, le-ltb, le-leb, lt-leb, ne-eqb}
+use Rattle.run.specs.CampaignFile.{whole, groups, groupsOf, read, Reader, _>>=_, given, shortestOf, numberOf, numberBytes, numbersBytes, pageBytes}
+use Rattle.run.specs.CampaignFile.{registersOf, wordsOf, timingOf, settingsOf, bytesOf, pageOf, flagsOf, cpuOf, partsOf, ended, campaignOf, Contents, written, Within, contents}
 use Rattle.run.specs.declared.campaign_file.Registers.{Registers}
 use Rattle.run.specs.declared.campaign_file.Words.{Words}
 use Rattle.run.specs.declared.campaign_file.Timing.{Timing}

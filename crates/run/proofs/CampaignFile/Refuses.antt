@@ -11,7 +11,7 @@ use lib.ListN.{length, drop, getD, length-drop, List·getD-eq-default}
 use lib.Seq.{getD-drop}
 use lib.Dec.{leb, ltb, eqb}
 use borrow.Author.Tests.{ltb-true, ltb-false, leb-true, leb-false, eqb-true, eqb-false, lt-ltb, le-ltb, le-leb, lt-leb, ne-eqb}
-use Rattle.run.specs.CampaignFile.{Groups, ends, over, whole, group, groups, Field, read, refused, Reader, onward, _>>=_, given, judged, shortestOf, numberFrom, numberOf}
+use Rattle.run.specs.CampaignFile.{Groups, ends, over, whole, group, groups, Field, read, refused, Reader, onward, _>>=_, given, shortestOf, numberFrom, numberOf}
 use Rattle.run.specs.CampaignFile.{registersOf, wordsOf, timingOf, settingsOf, bytesOf, pageOf, ended, campaignOf}
 use Rattle.run.specs.CampaignRefusals.{Kind, number, page, none, fields, fieldAt, Reached, start, after-number, after-page, EndsInside, OverTen, UnfitAt, over-ten, not-shortest, above, Stopped, ends-in-number, ends-in-page, unfit, left-over}
 use Rattle.run.specs.declared.campaign_file.Refusal.{Refusal}

@@ -1,11 +1,10 @@
+-- `run::campaign_file::cpu_of` meets its contract: the record is made as `cpuOf` says.
+-- Assumes nothing.
 use mathlib.Core.Path.{refl}
 use Rattle.run.specs.CampaignFile.{cpuOf}
 use Rattle.run.proofs.campaign_file.cpu_of.Statement.{statement}
 use Rattle.run.proofs.campaign_file.cpu_of.Tie as tie
-use Rattle.run.proofs.campaign_file.cpu_of.Reads as reads
-use Rattle.run.proofs.campaign_file.cpu_of.Lts as lts
 
--- src/campaign_file.rt:373:1
 returns : tie.Need-returns
 unfolding cpuOf
 returns c = refl

@@ -1,3 +1,5 @@
+-- `run::campaign_file::read_campaign` meets its contract: each answer tells what the group of fields is in the definition.
+-- Assumes nothing.
 use mathlib.Core.Path.{ap, _∙_}
 use borrow.Author.Needs.{needs}
 use borrow.Author.Tests.{lt-ltb, le-ltb}
@@ -6,61 +8,37 @@ use Rattle.run.specs.declared.campaign_file.Campaign.{Campaign}
 use Rattle.run.proofs.CampaignFile.Answers.{registers-told, words-told, timing-told, settings-told, page-told}
 use Rattle.run.proofs.campaign_file.read_campaign.Statement.{statement}
 use Rattle.run.proofs.campaign_file.read_campaign.Tie as tie
-use Rattle.run.proofs.campaign_file.read_campaign.Reads as reads
-use Rattle.run.proofs.campaign_file.read_campaign.Lts as lts
-use Rattle.run.proofs.campaign_file.Cursor.page.Reads as page-reads
-use Rattle.run.proofs.campaign_file.Cursor.registers.Reads as registers-reads
-use Rattle.run.proofs.campaign_file.Cursor.settings.Reads as settings-reads
-use Rattle.run.proofs.campaign_file.Cursor.timing.Reads as timing-reads
-use Rattle.run.proofs.campaign_file.Cursor.words.Reads as words-reads
-use Rattle.run.proofs.campaign_file.PageRead.stop.Reads as campaign-file-PageRead-stop-reads
-use Rattle.run.proofs.campaign_file.RegistersRead.stop.Reads as campaign-file-RegistersRead-stop-reads
-use Rattle.run.proofs.campaign_file.SettingsRead.stop.Reads as campaign-file-SettingsRead-stop-reads
-use Rattle.run.proofs.campaign_file.TimingRead.stop.Reads as campaign-file-TimingRead-stop-reads
-use Rattle.run.proofs.campaign_file.WordsRead.stop.Reads as campaign-file-WordsRead-stop-reads
-use Rattle.run.proofs.campaign_file.cpu_of.Reads as cpu-of-reads
-use Rattle.run.proofs.campaign_file.parsed_of.Reads as parsed-of-reads
 
--- src/campaign_file.rt:419:9
 registers-requires : tie.Need-registers-requires
 registers-requires c κs = search needs
 
--- src/campaign_file.rt:420:29
 enum-known-answer : tie.Need-enum-known-answer
 enum-known-answer c = search needs
 
--- src/campaign_file.rt:421:34
 enum-told : tie.Need-enum-told
 enum-told c = search needs
 
--- src/campaign_file.rt:421:34
 stop-requires : tie.Need-stop-requires
 stop-requires c κs = search needs
 
--- src/campaign_file.rt:421:9
 returns : tie.Need-returns
 unfolding campaignOf ended campaignAnswer
 returns c =
     let not1 = registers-told (c .before .before .before .registers .ensures) (c .before .enum-told .given .1) in
     rw (not1) (ap Campaign.Refused (c .stop .ensures ∙ ap registersStop (c .before .enum-told .given .1)))
 
--- src/campaign_file.rt:423:9
 words-requires : tie.Need-words-requires
 words-requires c κs = search needs
 
--- src/campaign_file.rt:424:25
 enum-known-answer-2 : tie.Need-enum-known-answer-2
 enum-known-answer-2 c = search needs
 
--- src/campaign_file.rt:425:34
 enum-told-2 : tie.Need-enum-told-2
 enum-told-2 c = search needs
 
--- src/campaign_file.rt:425:34
 stop-requires-2 : tie.Need-stop-requires-2
 stop-requires-2 c κs = search needs
 
--- src/campaign_file.rt:425:9
 returns-2 : tie.Need-returns-2
 unfolding campaignOf ended campaignAnswer
 returns-2 c =
@@ -69,23 +47,18 @@ returns-2 c =
     let not2 = words-told (c .before .before .before .words .ensures) (c .before .enum-told2 .given .1) in
     rw (read1, not2) (ap Campaign.Refused (c .stop2 .ensures ∙ ap wordsStop (c .before .enum-told2 .given .1)))
 
--- src/campaign_file.rt:427:9
 timing-requires : tie.Need-timing-requires
 timing-requires c κs = search needs
 
--- src/campaign_file.rt:428:26
 enum-known-answer-3 : tie.Need-enum-known-answer-3
 enum-known-answer-3 c = search needs
 
--- src/campaign_file.rt:429:34
 enum-told-3 : tie.Need-enum-told-3
 enum-told-3 c = search needs
 
--- src/campaign_file.rt:429:34
 stop-requires-3 : tie.Need-stop-requires-3
 stop-requires-3 c κs = search needs
 
--- src/campaign_file.rt:429:9
 returns-3 : tie.Need-returns-3
 unfolding campaignOf ended campaignAnswer
 returns-3 c =
@@ -96,23 +69,18 @@ returns-3 c =
     let not3 = timing-told (c .before .before .before .timing .ensures) (c .before .enum-told3 .given .1) in
     rw (read1, read2, not3) (ap Campaign.Refused (c .stop3 .ensures ∙ ap timingStop (c .before .enum-told3 .given .1)))
 
--- src/campaign_file.rt:431:9
 settings-requires : tie.Need-settings-requires
 settings-requires c κs = search needs
 
--- src/campaign_file.rt:432:28
 enum-known-answer-4 : tie.Need-enum-known-answer-4
 enum-known-answer-4 c = search needs
 
--- src/campaign_file.rt:433:34
 enum-told-4 : tie.Need-enum-told-4
 enum-told-4 c = search needs
 
--- src/campaign_file.rt:433:34
 stop-requires-4 : tie.Need-stop-requires-4
 stop-requires-4 c κs = search needs
 
--- src/campaign_file.rt:433:9
 returns-4 : tie.Need-returns-4
 unfolding campaignOf ended campaignAnswer
 returns-4 c =
@@ -125,23 +93,18 @@ returns-4 c =
     let not4 = settings-told (c .before .before .before .settings .ensures) (c .before .enum-told4 .given .1) in
     rw (read1, read2, read3, not4) (ap Campaign.Refused (c .stop4 .ensures ∙ ap settingsStop (c .before .enum-told4 .given .1)))
 
--- src/campaign_file.rt:435:9
 page-requires : tie.Need-page-requires
 page-requires c κs = search needs
 
--- src/campaign_file.rt:436:24
 enum-known-answer-5 : tie.Need-enum-known-answer-5
 enum-known-answer-5 c = search needs
 
--- src/campaign_file.rt:437:34
 enum-told-5 : tie.Need-enum-told-5
 enum-told-5 c = search needs
 
--- src/campaign_file.rt:437:34
 stop-requires-5 : tie.Need-stop-requires-5
 stop-requires-5 c κs = search needs
 
--- src/campaign_file.rt:437:9
 returns-5 : tie.Need-returns-5
 unfolding campaignOf ended campaignAnswer
 returns-5 c =
@@ -156,23 +119,18 @@ returns-5 c =
     let not5 = page-told (c .before .before .before .page .ensures) (c .before .enum-told5 .given .1) in
     rw (read1, read2, read3, read4, not5) (ap Campaign.Refused (c .stop5 .ensures ∙ ap pageStop (c .before .enum-told5 .given .1)))
 
--- src/campaign_file.rt:439:9
 page-requires-2 : tie.Need-page-requires-2
 page-requires-2 c κs = search needs
 
--- src/campaign_file.rt:440:24
 enum-known-answer-6 : tie.Need-enum-known-answer-6
 enum-known-answer-6 c = search needs
 
--- src/campaign_file.rt:441:34
 enum-told-6 : tie.Need-enum-told-6
 enum-told-6 c = search needs
 
--- src/campaign_file.rt:441:34
 stop-requires-6 : tie.Need-stop-requires-6
 stop-requires-6 c κs = search needs
 
--- src/campaign_file.rt:441:9
 returns-6 : tie.Need-returns-6
 unfolding campaignOf ended campaignAnswer
 returns-6 c =
@@ -189,7 +147,6 @@ returns-6 c =
     let not6 = page-told (c .before .before .before .page2 .ensures) (c .before .enum-told6 .given .1) in
     rw (read1, read2, read3, read4, read5, not6) (ap Campaign.Refused (c .stop6 .ensures ∙ ap pageStop (c .before .enum-told6 .given .1)))
 
--- src/campaign_file.rt:445:9
 returns-7 : tie.Need-returns-7
 unfolding campaignOf ended campaignAnswer
 returns-7 c =
@@ -207,15 +164,12 @@ returns-7 c =
     let read6 = page-told (k6 .before .before .before .page2 .ensures) (k6 .before .answer6 .given .1) in
     rw (read1, read2, read3, read4, read5, read6, lt-ltb _ _ (c .if1 .taken))
 
--- src/campaign_file.rt:447:9
 cpu-of-requires : tie.Need-cpu-of-requires
 cpu-of-requires c κs = search needs
 
--- src/campaign_file.rt:448:20
 parsed-of-requires : tie.Need-parsed-of-requires
 parsed-of-requires c κs = search needs
 
--- src/campaign_file.rt:415:1
 returns-8 : tie.Need-returns-8
 unfolding campaignOf ended campaignAnswer
 returns-8 c =

@@ -1,3 +1,5 @@
+-- The proof of the cycle of calls {put_decimal}. The measure is the number. Its last digit follows those of its tenth part.
+-- Assumes nothing.
 use mathlib.Core.Path.{_∙_}
 use native.Mathlib.Omega.{arith}
 use Rattle.run.proofs.PrintedLine.{put-then, put-length, decimal-one, decimal-more, length-one, length-more}
@@ -22,7 +24,6 @@ abbrev put-decimal-below : ℕ → In 1 put-decimal-kinds.ps
 put-decimal-below t =
     and 1 put-decimal-kinds.ps (falls 1 put-decimal-kinds.ps _<_ μ-put-decimal t) put-decimal.Pre
 
--- src/line.rt:43:30
 put-decimal-cast-put : (t : ℕ) → put-decimal-lts.Need-cast-put (
   put-reads.Asked,
   put-reads.Learnt,
@@ -31,7 +32,6 @@ put-decimal-cast-put : (t : ℕ) → put-decimal-lts.Need-cast-put (
 ) (put-decimal-at t) put-decimal.Post
 put-decimal-cast-put t c = omega arith
 
--- src/line.rt:43:25
 put-decimal-add-put : (t : ℕ) → put-decimal-lts.Need-add-put (
   put-reads.Asked,
   put-reads.Learnt,
@@ -40,7 +40,6 @@ put-decimal-add-put : (t : ℕ) → put-decimal-lts.Need-add-put (
 ) (put-decimal-at t) put-decimal.Post
 put-decimal-add-put t c = omega arith
 
--- src/line.rt:43:9
 put-decimal-put-requires : (t : ℕ) → put-decimal-lts.Need-put-requires (
   put-reads.Asked,
   put-reads.Learnt,
@@ -49,7 +48,6 @@ put-decimal-put-requires : (t : ℕ) → put-decimal-lts.Need-put-requires (
 ) (put-decimal-at t) put-decimal.Post
 put-decimal-put-requires t c κs = omega (arith, length-one (c .before .before .before .args .value) (omega arith))
 
--- src/line.rt:45:13
 put-decimal-put-decimal-requires : (t : ℕ) → put-decimal-lts.Need-put-decimal-requires (
   put-reads.Asked,
   put-reads.Learnt,
@@ -58,7 +56,6 @@ put-decimal-put-decimal-requires : (t : ℕ) → put-decimal-lts.Need-put-decima
 ) (put-decimal-at t) put-decimal.Post
 put-decimal-put-decimal-requires t c κs = omega (arith, length-more (c .before .before .before .args .value) (omega arith) (omega arith))
 
--- src/line.rt:46:32
 put-decimal-cast-put-2 : (t : ℕ) → put-decimal-lts.Need-cast-put-2 (
   put-reads.Asked,
   put-reads.Learnt,
@@ -67,7 +64,6 @@ put-decimal-cast-put-2 : (t : ℕ) → put-decimal-lts.Need-cast-put-2 (
 ) (put-decimal-at t) put-decimal.Post
 put-decimal-cast-put-2 t c = omega arith
 
--- src/line.rt:46:27
 put-decimal-add-put-2 : (t : ℕ) → put-decimal-lts.Need-add-put-2 (
   put-reads.Asked,
   put-reads.Learnt,
@@ -76,7 +72,6 @@ put-decimal-add-put-2 : (t : ℕ) → put-decimal-lts.Need-add-put-2 (
 ) (put-decimal-at t) put-decimal.Post
 put-decimal-add-put-2 t c = omega arith
 
--- src/line.rt:46:9
 put-decimal-put-requires-2 : (t : ℕ) → put-decimal-lts.Need-put-requires-2 (
   put-reads.Asked,
   put-reads.Learnt,
@@ -88,7 +83,6 @@ put-decimal-put-requires-2 t c κs =
     let p = c .before .before .before .put-decimal .ensures in
     omega (arith, p .next-is, put-length p, length-more v (omega arith) (omega arith))
 
--- src/line.rt:38:1
 put-decimal-same-length : (t : ℕ) → put-decimal-lts.Need-same-length (
   put-reads.Asked,
   put-reads.Learnt,
@@ -97,7 +91,6 @@ put-decimal-same-length : (t : ℕ) → put-decimal-lts.Need-same-length (
 ) (put-decimal-at t) put-decimal.Post
 put-decimal-same-length t c = put-length (c .before .before .put .ensures)
 
--- src/line.rt:38:1
 put-decimal-returns : (t : ℕ) → put-decimal-lts.Need-returns (
   put-reads.Asked,
   put-reads.Learnt,
@@ -106,7 +99,6 @@ put-decimal-returns : (t : ℕ) → put-decimal-lts.Need-returns (
 ) (put-decimal-at t) put-decimal.Post
 put-decimal-returns t c = rw (decimal-one (c .before .before .before .before .before .before .args .value) (omega arith)) (c .before .before .put .ensures)
 
--- src/line.rt:38:1
 put-decimal-same-length-2 : (t : ℕ) → put-decimal-lts.Need-same-length-2 (
   put-reads.Asked,
   put-reads.Learnt,
@@ -115,7 +107,6 @@ put-decimal-same-length-2 : (t : ℕ) → put-decimal-lts.Need-same-length-2 (
 ) (put-decimal-at t) put-decimal.Post
 put-decimal-same-length-2 t c = put-length (c .before .before .put2 .ensures) ∙ put-length (c .before .before .before .before .before .before .put-decimal .ensures)
 
--- src/line.rt:38:1
 put-decimal-returns-2 : (t : ℕ) → put-decimal-lts.Need-returns-2 (
   put-reads.Asked,
   put-reads.Learnt,

@@ -1,3 +1,5 @@
+-- The proof of the cycle of calls {put_hex}. The measure is the number of digits. The last digit follows the others.
+-- Assumes nothing.
 use mathlib.Core.Path.{_∙_}
 use native.Mathlib.Omega.{arith}
 use denote.Ref.{now}
@@ -23,7 +25,6 @@ put-hex-at t = and 1 put-hex-kinds.ps (is 1 put-hex-kinds.ps μ-put-hex t) put-h
 abbrev put-hex-below : ℕ → In 1 put-hex-kinds.ps
 put-hex-below t = and 1 put-hex-kinds.ps (falls 1 put-hex-kinds.ps _<_ μ-put-hex t) put-hex.Pre
 
--- src/line.rt:58:52
 put-hex-sub-put-hex : (t : ℕ) → put-hex-lts.Need-sub-put-hex (
   put-hex-below t,
   put-hex.Post,
@@ -34,7 +35,6 @@ put-hex-sub-put-hex : (t : ℕ) → put-hex-lts.Need-sub-put-hex (
 ) (put-hex-at t) put-hex.Post
 put-hex-sub-put-hex t c = omega arith
 
--- src/line.rt:58:13
 put-hex-put-hex-requires : (t : ℕ) → put-hex-lts.Need-put-hex-requires (
   put-hex-below t,
   put-hex.Post,
@@ -45,7 +45,6 @@ put-hex-put-hex-requires : (t : ℕ) → put-hex-lts.Need-put-hex-requires (
 ) (put-hex-at t) put-hex.Post
 put-hex-put-hex-requires t c κs = omega arith
 
--- src/line.rt:59:13
 put-hex-hex-digit-requires : (t : ℕ) → put-hex-lts.Need-hex-digit-requires (
   put-hex-below t,
   put-hex.Post,
@@ -56,7 +55,6 @@ put-hex-hex-digit-requires : (t : ℕ) → put-hex-lts.Need-hex-digit-requires (
 ) (put-hex-at t) put-hex.Post
 put-hex-hex-digit-requires t c κs = omega arith
 
--- src/line.rt:60:9
 put-hex-put-requires : (t : ℕ) → put-hex-lts.Need-put-requires (
   put-hex-below t,
   put-hex.Post,
@@ -70,7 +68,6 @@ put-hex-put-requires t c κs =
     let p = c .before .before .before .before .put-hex .ensures in
     omega (arith, p .next-is, put-length p, length-hex (a .digits - 1) (a .value / 16))
 
--- src/line.rt:51:1
 put-hex-returns : (t : ℕ) → put-hex-lts.Need-returns (
   put-hex-below t,
   put-hex.Post,
@@ -82,7 +79,6 @@ put-hex-returns : (t : ℕ) → put-hex-lts.Need-returns (
 unfolding hexOf
 put-hex-returns t c = rw (c .if1 .taken) (put-none (now (c .before .before .args .buffer)) (c .before .before .args .at))
 
--- src/line.rt:51:1
 put-hex-same-length : (t : ℕ) → put-hex-lts.Need-same-length (
   put-hex-below t,
   put-hex.Post,
@@ -93,7 +89,6 @@ put-hex-same-length : (t : ℕ) → put-hex-lts.Need-same-length (
 ) (put-hex-at t) put-hex.Post
 put-hex-same-length t c = put-length (c .before .before .put .ensures) ∙ put-length (c .before .before .before .before .before .before .before .put-hex .ensures)
 
--- src/line.rt:51:1
 put-hex-returns-2 : (t : ℕ) → put-hex-lts.Need-returns-2 (
   put-hex-below t,
   put-hex.Post,

@@ -1,29 +1,23 @@
+-- `run::line::decimal` meets its contract: the digits, then one byte.
+-- Assumes nothing.
 use native.Mathlib.Omega.{arith}
 use Rattle.run.proofs.PrintedLine.{put-then, put-length, length-decimal}
 use borrow.Author.Needs.{needs}
 use Rattle.run.proofs.line.decimal.Statement.{statement}
 use Rattle.run.proofs.line.decimal.Tie as tie
-use Rattle.run.proofs.line.decimal.Reads as reads
-use Rattle.run.proofs.line.decimal.Lts as lts
-use Rattle.run.proofs.line.put.Reads as put-reads
-use Rattle.run.proofs.line.put_decimal.Reads as put-decimal-reads
 
--- src/line.rt:69:9
 put-decimal-requires : tie.Need-put-decimal-requires
 put-decimal-requires c κs = omega (arith, length-decimal (c .before .before .args .value))
 
--- src/line.rt:70:5
 put-requires : tie.Need-put-requires
 put-requires c κs =
     let a = c .before .before .before .before .before .before .args in
     let p = c .before .before .before .put-decimal .ensures in
     omega (arith, p .next-is, put-length p, length-decimal (a .value))
 
--- src/line.rt:65:1
 same-length : tie.Need-same-length
 same-length c = search needs
 
--- src/line.rt:65:1
 returns : tie.Need-returns
 returns c = put-then (c .before .before .before .before .before .before .put-decimal .ensures) (c .before .before .put .ensures)
 

@@ -1,113 +1,86 @@
+-- `run::line::flags_of` meets its contract: each bit is at most 1, so the sum fits.
+-- Assumes nothing.
 use native.Mathlib.Omega.{arith}
 use Rattle.run.specs.CampaignFile.{flagsOf}
 use borrow.Author.Needs.{needs}
 use Rattle.run.proofs.line.flags_of.Statement.{statement}
 use Rattle.run.proofs.line.flags_of.Tie as tie
-use Rattle.run.proofs.line.flags_of.Reads as reads
-use Rattle.run.proofs.line.flags_of.Lts as lts
-use Rattle.run.proofs.line.bit.Reads as bit-reads
 
--- src/line.rt:92:15
 bit-requires : tie.Need-bit-requires
 bit-requires c κs = search needs
 
--- src/line.rt:92:40
 bit-requires-2 : tie.Need-bit-requires-2
 bit-requires-2 c κs = search needs
 
--- src/line.rt:92:36
 mul-low : tie.Need-mul-low
 mul-low c = search needs
 
--- src/line.rt:92:15
 add-low : tie.Need-add-low
 add-low c = search needs
 
--- src/line.rt:92:58
 bit-requires-3 : tie.Need-bit-requires-3
 bit-requires-3 c κs = search needs
 
--- src/line.rt:92:54
 mul-low-2 : tie.Need-mul-low-2
 mul-low-2 c = search needs
 
--- src/line.rt:92:15
 add-low-2 : tie.Need-add-low-2
 add-low-2 c = search needs
 
--- src/line.rt:92:76
 bit-requires-4 : tie.Need-bit-requires-4
 bit-requires-4 c κs = search needs
 
--- src/line.rt:92:72
 mul-low-3 : tie.Need-mul-low-3
 mul-low-3 c = search needs
 
--- src/line.rt:92:15
 add-low-3 : tie.Need-add-low-3
 add-low-3 c = search needs
 
--- src/line.rt:93:29
 bit-requires-5 : tie.Need-bit-requires-5
 bit-requires-5 c κs = search needs
 
--- src/line.rt:93:24
 mul-middle : tie.Need-mul-middle
 mul-middle c = search needs
 
--- src/line.rt:93:18
 add-middle : tie.Need-add-middle
 add-middle c = search needs
 
--- src/line.rt:93:50
 bit-requires-6 : tie.Need-bit-requires-6
 bit-requires-6 c κs = search needs
 
--- src/line.rt:93:45
 mul-middle-2 : tie.Need-mul-middle-2
 mul-middle-2 c = search needs
 
--- src/line.rt:93:18
 add-middle-2 : tie.Need-add-middle-2
 add-middle-2 c = search needs
 
--- src/line.rt:93:70
 bit-requires-7 : tie.Need-bit-requires-7
 bit-requires-7 c κs = search needs
 
--- src/line.rt:93:65
 mul-middle-3 : tie.Need-mul-middle-3
 mul-middle-3 c = search needs
 
--- src/line.rt:93:18
 add-middle-3 : tie.Need-add-middle-3
 add-middle-3 c = search needs
 
--- src/line.rt:94:20
 bit-requires-8 : tie.Need-bit-requires-8
 bit-requires-8 c κs = search needs
 
--- src/line.rt:94:14
 mul-result : tie.Need-mul-result
 mul-result c = search needs
 
--- src/line.rt:94:5
 add-result : tie.Need-add-result
 add-result c = search needs
 
--- src/line.rt:94:41
 bit-requires-9 : tie.Need-bit-requires-9
 bit-requires-9 c κs = search needs
 
--- src/line.rt:94:35
 mul-result-2 : tie.Need-mul-result-2
 mul-result-2 c = search needs
 
--- src/line.rt:94:5
 add-result-2 : tie.Need-add-result-2
 add-result-2 c = search needs
 
--- src/line.rt:89:1
 returns : tie.Need-returns
 unfolding flagsOf
 returns c = omega arith

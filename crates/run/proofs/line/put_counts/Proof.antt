@@ -1,3 +1,5 @@
+-- `run::line::put_counts` meets its contract: three fields, one after another.
+-- Assumes nothing.
 use mathlib.Core.List.{append-assoc}
 use native.Mathlib.Omega.{arith}
 use Rattle.run.specs.Line.{space}
@@ -5,22 +7,16 @@ use Rattle.run.proofs.PrintedLine.{put-then, put-length, decimal-next}
 use borrow.Author.Needs.{needs}
 use Rattle.run.proofs.line.put_counts.Statement.{statement}
 use Rattle.run.proofs.line.put_counts.Tie as tie
-use Rattle.run.proofs.line.put_counts.Reads as reads
-use Rattle.run.proofs.line.put_counts.Lts as lts
-use Rattle.run.proofs.line.decimal.Reads as decimal-reads
 
--- src/line.rt:102:9
 decimal-requires : tie.Need-decimal-requires
 decimal-requires c κs = search needs
 
--- src/line.rt:103:9
 decimal-requires-2 : tie.Need-decimal-requires-2
 decimal-requires-2 c κs =
     let a = c .before .before .before .before .before .before .args in
     let p1 = c .before .before .before .decimal .ensures in
     omega (arith, decimal-next (a .number) space p1, put-length p1)
 
--- src/line.rt:104:5
 decimal-requires-3 : tie.Need-decimal-requires-3
 decimal-requires-3 c κs =
     let a = c .before .before .before .before .before .before .before .before .before .before .args in
@@ -28,11 +24,9 @@ decimal-requires-3 c κs =
     let p2 = c .before .before .before .decimal2 .ensures in
     omega (arith, decimal-next (a .number) space p1, put-length p1, decimal-next (a .steps) space p2, put-length p2)
 
--- src/line.rt:98:1
 same-length : tie.Need-same-length
 same-length c = search needs
 
--- src/line.rt:98:1
 returns : tie.Need-returns
 returns c = simp append-assoc at (put-then (put-then (c .before .before .before .before .before .before .before .before .before .before .decimal .ensures) (c .before .before .before .before .before .before .decimal2 .ensures)) (c .before .before .decimal3 .ensures))
 

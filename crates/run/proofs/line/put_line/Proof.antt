@@ -1,3 +1,5 @@
+-- `run::line::put_line` meets its contract: three parts, one after another, which the buffer holds.
+-- Assumes nothing.
 use mathlib.Core.List.{append-assoc}
 use native.Mathlib.Omega.{arith}
 use Rattle.run.specs.Line.{lineOf}
@@ -5,24 +7,16 @@ use Rattle.run.proofs.PrintedLine.{put-then, put-length, printed, count
 use borrow.Author.Needs.{needs}
 use Rattle.run.proofs.line.put_line.Statement.{statement}
 use Rattle.run.proofs.line.put_line.Tie as tie
-use Rattle.run.proofs.line.put_line.Reads as reads
-use Rattle.run.proofs.line.put_line.Lts as lts
-use Rattle.run.proofs.line.put_counters.Reads as put-counters-reads
-use Rattle.run.proofs.line.put_counts.Reads as put-counts-reads
-use Rattle.run.proofs.line.put_registers.Reads as put-registers-reads
 
--- src/line.rt:139:9
 put-counts-requires : tie.Need-put-counts-requires
 put-counts-requires c κs = search needs
 
--- src/line.rt:140:9
 put-registers-requires : tie.Need-put-registers-requires
 put-registers-requires c κs =
     let a = c .before .before .before .before .before .before .args in
     let p1 = c .before .before .before .put-counts .ensures in
     omega (arith, counts-next (a .number) (a .steps) (a .states) p1, put-length p1)
 
--- src/line.rt:141:5
 put-counters-requires : tie.Need-put-counters-requires
 put-counters-requires c κs =
     let a = c .before .before .before .before .before .before .before .before .before .before .args in
@@ -30,11 +24,9 @@ put-counters-requires c κs =
     let p2 = c .before .before .before .put-registers .ensures in
     omega (arith, counts-next (a .number) (a .steps) (a .states) p1, put-length p1, registers-next (a .cpu) p2, put-length p2)
 
--- src/line.rt:135:1
 same-length : tie.Need-same-length
 same-length c = search needs
 
--- src/line.rt:135:1
 returns : tie.Need-returns
 unfolding lineOf
 returns c =

@@ -1,3 +1,5 @@
+-- `run::line::put_refusal` meets its contract: two fields, one after another, which the buffer holds.
+-- Assumes nothing.
 use mathlib.Core.List.{append-assoc}
 use native.Mathlib.Omega.{arith}
 use Rattle.run.specs.Line.{space, newline, refusalLineOf}
@@ -5,26 +7,19 @@ use Rattle.run.proofs.PrintedLine.{put-then, put-length, printed, decim
 use borrow.Author.Needs.{needs}
 use Rattle.run.proofs.line.put_refusal.Statement.{statement}
 use Rattle.run.proofs.line.put_refusal.Tie as tie
-use Rattle.run.proofs.line.put_refusal.Reads as reads
-use Rattle.run.proofs.line.put_refusal.Lts as lts
-use Rattle.run.proofs.line.decimal.Reads as decimal-reads
 
--- src/line.rt:149:9
 decimal-requires : tie.Need-decimal-requires
 decimal-requires c κs = search needs
 
--- src/line.rt:150:5
 decimal-requires-2 : tie.Need-decimal-requires-2
 decimal-requires-2 c κs =
     let a = c .before .before .before .before .before .before .args in
     let p1 = c .before .before .before .decimal .ensures in
     omega (arith, decimal-next (a .number) space p1, put-length p1)
 
--- src/line.rt:145:1
 same-length : tie.Need-same-length
 same-length c = search needs
 
--- src/line.rt:145:1
 returns : tie.Need-returns
 unfolding refusalLineOf
 returns c =

@@ -1,38 +1,31 @@
+-- `run::line::put_registers` meets its contract: nine fields, one after another.
+-- Assumes nothing.
 use Rattle.run.specs.CampaignFile.{flagsOf}
 use mathlib.Core.Path.{_∙_}
-use mathlib.Core.List.{[], _∷_, _++_}
+use mathlib.Core.List.{[]}
 use lib.ListN.{drop}
-use Rattle.run.specs.Line.{space, hexOf, registerFields, Put}
+use Rattle.run.specs.Line.{hexOf, registerFields}
 use native.Mathlib.Omega.{arith}
 use Rattle.run.proofs.PrintedLine.{put-none, put-cons, put-length, hex-next}
 use borrow.Author.Needs.{needs}
 use Rattle.run.proofs.line.put_registers.Statement.{statement}
 use Rattle.run.proofs.line.put_registers.Tie as tie
-use Rattle.run.proofs.line.put_registers.Reads as reads
-use Rattle.run.proofs.line.put_registers.Lts as lts
-use Rattle.run.proofs.line.flags_of.Reads as flags-of-reads
-use Rattle.run.proofs.line.hex.Reads as hex-reads
 
--- src/line.rt:112:32
 cast-hex : tie.Need-cast-hex
 cast-hex c = search needs
 
--- src/line.rt:112:9
 hex-requires : tie.Need-hex-requires
 hex-requires c κs = search needs
 
--- src/line.rt:113:34
 cast-hex-2 : tie.Need-cast-hex-2
 cast-hex-2 c = search needs
 
--- src/line.rt:113:9
 hex-requires-2 : tie.Need-hex-requires-2
 hex-requires-2 c κs =
     let a = c .before .before .before .before .before .before .before .before .args .cpu in
     let p1 = c .before .before .before .before .hex .ensures in
     omega (arith, hex-next 2 (a .a) p1, put-length p1)
 
--- src/line.rt:114:9
 hex-requires-3 : tie.Need-hex-requires-3
 hex-requires-3 c κs =
     let a = c .before .before .before .before .before .before .before .before .before .before .before .before .args .cpu in
@@ -40,7 +33,6 @@ hex-requires-3 c κs =
     let p2 = c .before .before .before .hex2 .ensures in
     omega (arith, hex-next 2 (a .a) p1, put-length p1, hex-next 2 (a .t) p2, put-length p2)
 
--- src/line.rt:115:9
 hex-requires-4 : tie.Need-hex-requires-4
 hex-requires-4 c κs =
     let a = c .before .before .before .before .before .before .before .before .before .before .before .before .before .before .before .before .args .cpu in
@@ -49,7 +41,6 @@ hex-requires-4 c κs =
     let p3 = c .before .before .before .hex3 .ensures in
     omega (arith, hex-next 2 (a .a) p1, put-length p1, hex-next 2 (a .t) p2, put-length p2, hex-next 4 (a .x) p3, put-length p3)
 
--- src/line.rt:116:9
 hex-requires-5 : tie.Need-hex-requires-5
 hex-requires-5 c κs =
     let a = c .before .before .before .before .before .before .before .before .before .before .before .before .before .before .before .before .before .before .before .before .args .cpu in
@@ -59,7 +50,6 @@ hex-requires-5 c κs =
     let p4 = c .before .before .before .hex4 .ensures in
     omega (arith, hex-next 2 (a .a) p1, put-length p1, hex-next 2 (a .t) p2, put-length p2, hex-next 4 (a .x) p3, put-length p3, hex-next 4 (a .y) p4, put-length p4)
 
--- src/line.rt:117:9
 hex-requires-6 : tie.Need-hex-requires-6
 hex-requires-6 c κs =
     let a = c .before .before .before .before .before .before .before .before .before .before .before .before .before .before .before .before .before .before .before .before .before .before .before .before .args .cpu in
@@ -70,7 +60,6 @@ hex-requires-6 c κs =
     let p5 = c .before .before .before .hex5 .ensures in
     omega (arith, hex-next 2 (a .a) p1, put-length p1, hex-next 2 (a .t) p2, put-length p2, hex-next 4 (a .x) p3, put-length p3, hex-next 4 (a .y) p4, put-length p4, hex-next 4 (a .u) p5, put-length p5)
 
--- src/line.rt:118:9
 hex-requires-7 : tie.Need-hex-requires-7
 hex-requires-7 c κs =
     let a = c .before .before .before .before .before .before .before .before .before .before .before .before .before .before .before .before .before .before .before .before .before .before .before .before .before .before .before .before .args .cpu in
@@ -82,7 +71,6 @@ hex-requires-7 c κs =
     let p6 = c .before .before .before .hex6 .ensures in
     omega (arith, c .before .before .before .before .before .before .before .before .before .before .before .before .before .before .before .before .before .before .before .before .before .before .before .before .before .before .before .before .pre, hex-next 2 (a .a) p1, put-length p1, hex-next 2 (a .t) p2, put-length p2, hex-next 4 (a .x) p3, put-length p3, hex-next 4 (a .y) p4, put-length p4, hex-next 4 (a .u) p5, put-length p5, hex-next 4 (a .s) p6, put-length p6)
 
--- src/line.rt:119:9
 hex-requires-8 : tie.Need-hex-requires-8
 hex-requires-8 c κs =
     let a = c .before .before .before .before .before .before .before .before .before .before .before .before .before .before .before .before .before .before .before .before .before .before .before .before .before .before .before .before .before .before .before .before .args .cpu in
@@ -95,11 +83,9 @@ hex-requires-8 c κs =
     let p7 = c .before .before .before .hex7 .ensures in
     omega (arith, c .before .before .before .before .before .before .before .before .before .before .before .before .before .before .before .before .before .before .before .before .before .before .before .before .before .before .before .before .before .before .before .before .pre, hex-next 2 (a .a) p1, put-length p1, hex-next 2 (a .t) p2, put-length p2, hex-next 4 (a .x) p3, put-length p3, hex-next 4 (a .y) p4, put-length p4, hex-next 4 (a .u) p5, put-length p5, hex-next 4 (a .s) p6, put-length p6, hex-next 4 (a .p) p7, put-length p7)
 
--- src/line.rt:120:9
 flags-of-requires : tie.Need-flags-of-requires
 flags-of-requires c κs = search needs
 
--- src/line.rt:121:5
 hex-requires-9 : tie.Need-hex-requires-9
 hex-requires-9 c κs =
     let a = c .before .before .before .before .before .before .before .before .before .before .before .before .before .before .before .before .before .before .before .before .before .before .before .before .before .before .before .before .before .before .before .before .before .before .before .before .before .args .cpu in
@@ -113,7 +99,6 @@ hex-requires-9 c κs =
     let p8 = c .before .before .before .before .hex8 .ensures in
     omega (arith, c .before .before .before .before .before .before .before .before .before .before .before .before .before .before .before .before .before .before .before .before .before .before .before .before .before .before .before .before .before .before .before .before .before .before .before .before .before .pre, hex-next 2 (a .a) p1, put-length p1, hex-next 2 (a .t) p2, put-length p2, hex-next 4 (a .x) p3, put-length p3, hex-next 4 (a .y) p4, put-length p4, hex-next 4 (a .u) p5, put-length p5, hex-next 4 (a .s) p6, put-length p6, hex-next 4 (a .p) p7, put-length p7, hex-next 3 (a .tm) p8, put-length p8)
 
--- src/line.rt:108:1
 same-length : tie.Need-same-length
 same-length c =
     put-length (c .before .before .hex9 .ensures)
@@ -126,7 +111,6 @@ same-length c =
     ∙ put-length (c .before .before .before .before .before .before .before .before .before .before .before .before .before .before .before .before .before .before .before .before .before .before .before .before .before .before .before .before .before .before .before .hex2 .ensures)
     ∙ put-length (c .before .before .before .before .before .before .before .before .before .before .before .before .before .before .before .before .before .before .before .before .before .before .before .before .before .before .before .before .before .before .before .before .before .before .before .before .hex .ensures)
 
--- src/line.rt:108:1
 returns : tie.Need-returns
 returns c =
     let m = c .before .before .before .before .before .before .before .before .before .before .before .before .before .before .before .before .before .before .before .before .before .before .before .before .before .before .before .before .before .before .before .before .before .before .before .before .before .before .before .before .args .cpu in

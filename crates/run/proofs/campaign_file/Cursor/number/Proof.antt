@@ -1,16 +1,13 @@
-use Prim.Native.Nat.{ℕ, _-_, _+_, _*_, _%_, _^_, _<_, _≤_}
-use mathlib.Core.Path.{_≡_, sym, ap, _∙_}
+-- `run::campaign_file::Cursor::number` meets its contract. The loop's invariant: the groups passed, with their value and the next one's weight,
+-- stand in front of those that the definition finds from here on. The measure is what is left of nine groups.
+-- Assumes nothing.
+use Prim.Native.Nat.{_-_, _%_, _^_, _≤_}
+use mathlib.Core.Path.{sym, ap}
 use native.Mathlib.Omega.{arith}
-use borrow.Author.Needs.{needs}
-use lib.ListN.{length, getD}
 use Rattle.run.specs.CampaignFile.{numberAnswer}
 use Rattle.run.proofs.CampaignFile.Groups.{Passed, passed-none, passed-more, weight-small, group-small, nine-weigh, number-ends, number-last, number-tenth-one, number-tenth-not}
 use Rattle.run.proofs.campaign_file.Cursor.number.Statement.{statement}
 use Rattle.run.proofs.campaign_file.Cursor.number.Tie as tie
-use Rattle.run.proofs.campaign_file.Cursor.number.Reads as reads
-use Rattle.run.proofs.campaign_file.Cursor.number.Lts as lts
-use Rattle.run.proofs.campaign_file.judge.Reads as judge-reads
-use Rattle.run.proofs.campaign_file.wide.Reads as wide-reads
 
 abbrev Inv-loop : tie.InvT-loop
 Inv-loop bytes greatest begin at₀ weight₀ value₀ at weight value = Passed bytes begin at weight value
@@ -18,15 +15,12 @@ Inv-loop bytes greatest begin at₀ weight₀ value₀ at weight value = Passed 
 abbrev μ-loop : tie.MeasureT-loop
 μ-loop bytes greatest begin at₀ weight₀ value₀ at weight value = 9 - (at - begin)
 
--- src/campaign_file.rt:90:9
 loop-holds : tie.Need-loop-holds Inv-loop μ-loop
 loop-holds c = passed-none (c .before .args .bytes .now) (c .before .args .self .at)
 
--- src/campaign_file.rt:90:15
 sub-loop : tie.Need-sub-loop Inv-loop μ-loop
 sub-loop c = omega (arith, c .loop .inv .at-is)
 
--- src/campaign_file.rt:92:17
 returns : tie.Need-returns Inv-loop μ-loop
 unfolding numberAnswer
 returns c =
@@ -34,37 +28,30 @@ returns c =
     let l = c .before .before .loop in
     ap numberAnswer (sym (number-ends (a .bytes .now) (a .self .at) (l .at) (l .weight) (l .value) (l .inv) (a .greatest) (c .if1 .taken)))
 
--- src/campaign_file.rt:94:30
 shared-slice-read-wide : tie.Need-shared-slice-read-wide Inv-loop μ-loop
 shared-slice-read-wide c = omega arith
 
--- src/campaign_file.rt:94:17
 wide-requires : tie.Need-wide-requires Inv-loop μ-loop
 wide-requires c κs = tt
 
--- src/campaign_file.rt:97:37
 add-judge : tie.Need-add-judge Inv-loop μ-loop
 add-judge c = omega arith
 
--- src/campaign_file.rt:97:53
 mul-judge : tie.Need-mul-judge Inv-loop μ-loop
 mul-judge c =
     let l = c .before .before .before .before .before .loop in
     let small : l .weight ≤ 2 ^ 56 = weight-small (l .inv .count) (l .weight) (l .inv .weight-is) (omega (arith, l .inv .at-is)) in
     omega (arith, group-small (l .weight) (c .before .wide .result) (omega arith))
 
--- src/campaign_file.rt:97:45
 add-judge-2 : tie.Need-add-judge-2 Inv-loop μ-loop
 add-judge-2 c =
     let l = c .before .before .before .before .before .loop in
     let small : l .weight ≤ 2 ^ 56 = weight-small (l .inv .count) (l .weight) (l .inv .weight-is) (omega (arith, l .inv .at-is)) in
     omega (arith, group-small (l .weight) (c .before .wide .result) (omega arith))
 
--- src/campaign_file.rt:97:17
 judge-requires : tie.Need-judge-requires Inv-loop μ-loop
 judge-requires c κs = tt
 
--- src/campaign_file.rt:97:17
 returns-2 : tie.Need-returns-2 Inv-loop μ-loop
 unfolding numberAnswer
 returns-2 c =
@@ -76,36 +63,30 @@ returns-2 c =
       number-last (a .bytes .now) (a .self .at) (l .at) (l .weight) (l .value) (l .inv) (a .greatest) (c .before .before .before .before .if1 .left) (omega arith),
     )
 
--- src/campaign_file.rt:99:29
 mul-value : tie.Need-mul-value Inv-loop μ-loop
 mul-value c =
     let l = c .before .before .before .before .before .loop in
     let small : l .weight ≤ 2 ^ 56 = weight-small (l .inv .count) (l .weight) (l .inv .weight-is) (omega (arith, l .inv .at-is)) in
     omega (arith, group-small (l .weight) (c .before .wide .result % 128) (omega arith))
 
--- src/campaign_file.rt:99:21
 add-value : tie.Need-add-value Inv-loop μ-loop
 add-value c =
     let l = c .before .before .before .before .before .loop in
     let small : l .weight ≤ 2 ^ 56 = weight-small (l .inv .count) (l .weight) (l .inv .weight-is) (omega (arith, l .inv .at-is)) in
     omega (arith, group-small (l .weight) (c .before .wide .result % 128) (omega arith))
 
--- src/campaign_file.rt:100:22
 mul-weight : tie.Need-mul-weight Inv-loop μ-loop
 mul-weight c =
     let l = c .before .before .before .before .before .loop in
     let small : l .weight ≤ 2 ^ 56 = weight-small (l .inv .count) (l .weight) (l .inv .weight-is) (omega (arith, l .inv .at-is)) in
     omega arith
 
--- src/campaign_file.rt:101:18
 add-at : tie.Need-add-at Inv-loop μ-loop
 add-at c = omega arith
 
--- src/campaign_file.rt:90:9
 loop-less : tie.Need-loop-less Inv-loop μ-loop
 loop-less c = omega arith
 
--- src/campaign_file.rt:90:9
 loop-again : tie.Need-loop-again Inv-loop μ-loop
 loop-again c =
     let a = c .before .before .before .before .before .before .before .args in
@@ -114,7 +95,6 @@ loop-again c =
     (passed-more (a .bytes .now) (a .self .at) (l .at) (l .weight) (l .value) (l .inv) (c .before .before .before .if1 .left)
     (omega (arith, l .inv .at-is)) (omega arith))
 
--- src/campaign_file.rt:105:13
 returns-3 : tie.Need-returns-3 Inv-loop μ-loop
 unfolding numberAnswer
 returns-3 c =
@@ -122,25 +102,20 @@ returns-3 c =
     let l = c .before .before .loop in
     ap numberAnswer (sym (number-ends (a .bytes .now) (a .self .at) (l .at) (l .weight) (l .value) (l .inv) (a .greatest) (c .if3 .taken)))
 
--- src/campaign_file.rt:107:12
 shared-slice-read-if4 : tie.Need-shared-slice-read-if4 Inv-loop μ-loop
 shared-slice-read-if4 c = omega arith
 
--- src/campaign_file.rt:108:26
 add-judge-3 : tie.Need-add-judge-3 Inv-loop μ-loop
 add-judge-3 c = omega arith
 
--- src/campaign_file.rt:108:34
 add-judge-4 : tie.Need-add-judge-4 Inv-loop μ-loop
 add-judge-4 c =
     let l = c .before .before .before .before .loop in
     omega (arith, nine-weigh (l .inv .count) (l .weight) (l .inv .weight-is) (l .inv .few))
 
--- src/campaign_file.rt:108:13
 judge-requires-2 : tie.Need-judge-requires-2 Inv-loop μ-loop
 judge-requires-2 c κs = tt
 
--- src/campaign_file.rt:83:5
 returns-4 : tie.Need-returns-4 Inv-loop μ-loop
 unfolding numberAnswer
 returns-4 c =
@@ -152,7 +127,6 @@ returns-4 c =
           (c .before .if4 .taken),
     )
 
--- src/campaign_file.rt:83:5
 returns-5 : tie.Need-returns-5 Inv-loop μ-loop
 unfolding numberAnswer
 returns-5 c =

@@ -1,3 +1,5 @@
+-- `run::campaign_file::Cursor::page` meets its contract. The place after a number is within the file, so the sum does not wrap.
+-- Assumes nothing.
 use mathlib.Core.Path.{ap, _∙_}
 use native.Mathlib.Omega.{arith}
 use borrow.Author.Needs.{needs}
@@ -8,35 +10,25 @@ use Rattle.run.proofs.CampaignFile.Answers.{number-told}
 use Rattle.run.proofs.CampaignFile.Number.{number-within}
 use Rattle.run.proofs.campaign_file.Cursor.page.Statement.{statement}
 use Rattle.run.proofs.campaign_file.Cursor.page.Tie as tie
-use Rattle.run.proofs.campaign_file.Cursor.page.Reads as reads
-use Rattle.run.proofs.campaign_file.Cursor.page.Lts as lts
-use Rattle.run.proofs.campaign_file.Cursor.number.Reads as number-reads
-use Rattle.run.proofs.campaign_file.Number.stop.Reads as stop-reads
 
--- src/campaign_file.rt:359:13
 number-requires : tie.Need-number-requires
 number-requires c κs = search needs
 
--- src/campaign_file.rt:360:26
 enum-known-answer : tie.Need-enum-known-answer
 enum-known-answer c = search needs
 
--- src/campaign_file.rt:361:38
 enum-told : tie.Need-enum-told
 enum-told c = search needs
 
--- src/campaign_file.rt:361:38
 stop-requires : tie.Need-stop-requires
 stop-requires c κs = search needs
 
--- src/campaign_file.rt:361:13
 returns : tie.Need-returns
 unfolding pageOf bytesOf pageAnswer
 returns c =
     let not1 = number-told (c .before .before .before .number .ensures) (c .before .enum-told .given .1) in
     rw (not1) (ap PageRead.Refused (c .stop .ensures ∙ ap numberStop (c .before .enum-told .given .1)))
 
--- src/campaign_file.rt:365:26
 add-if1 : tie.Need-add-if1
 add-if1 c =
     let k1 = c in
@@ -44,7 +36,6 @@ add-if1 c =
     let within = number-within _ _ _ _ _ read1 in
     omega arith
 
--- src/campaign_file.rt:366:13
 returns-2 : tie.Need-returns-2
 unfolding pageOf bytesOf pageAnswer
 returns-2 c =
@@ -52,11 +43,9 @@ returns-2 c =
     let read1 = number-told (k1 .before .before .before .number .ensures) (k1 .before .answer .given .1) in
     rw (read1, lt-ltb _ _ (c .if1 .taken))
 
--- src/campaign_file.rt:368:64
 add-t10 : tie.Need-add-t10
 add-t10 c = search needs
 
--- src/campaign_file.rt:355:5
 returns-3 : tie.Need-returns-3
 unfolding pageOf bytesOf pageAnswer
 returns-3 c =

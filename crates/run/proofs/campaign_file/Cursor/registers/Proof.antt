@@ -1,3 +1,5 @@
+-- `run::campaign_file::Cursor::registers` meets its contract: each answer tells what the field is in the definition.
+-- Assumes nothing.
 use mathlib.Core.Path.{ap, _∙_}
 use native.Mathlib.Omega.{arith}
 use borrow.Author.Needs.{needs}
@@ -7,51 +9,37 @@ use Rattle.run.proofs.CampaignFile.Answers.{number-told}
 use Rattle.run.proofs.CampaignFile.Number.{number-within}
 use Rattle.run.proofs.campaign_file.Cursor.registers.Statement.{statement}
 use Rattle.run.proofs.campaign_file.Cursor.registers.Tie as tie
-use Rattle.run.proofs.campaign_file.Cursor.registers.Reads as reads
-use Rattle.run.proofs.campaign_file.Cursor.registers.Lts as lts
-use Rattle.run.proofs.campaign_file.Cursor.number.Reads as number-reads
-use Rattle.run.proofs.campaign_file.Number.stop.Reads as stop-reads
 
--- src/campaign_file.rt:252:13
 number-requires : tie.Need-number-requires
 number-requires c κs = search needs
 
--- src/campaign_file.rt:253:26
 enum-known-answer : tie.Need-enum-known-answer
 enum-known-answer c = search needs
 
--- src/campaign_file.rt:254:43
 enum-told : tie.Need-enum-told
 enum-told c = search needs
 
--- src/campaign_file.rt:254:43
 stop-requires : tie.Need-stop-requires
 stop-requires c κs = search needs
 
--- src/campaign_file.rt:254:13
 returns : tie.Need-returns
 unfolding registersOf registersAnswer
 returns c =
     let not1 = number-told (c .before .before .before .number .ensures) (c .before .enum-told .given .1) in
     rw (not1) (ap RegistersRead.Refused (c .stop .ensures ∙ ap numberStop (c .before .enum-told .given .1)))
 
--- src/campaign_file.rt:256:13
 number-requires-2 : tie.Need-number-requires-2
 number-requires-2 c κs = search needs
 
--- src/campaign_file.rt:257:26
 enum-known-answer-2 : tie.Need-enum-known-answer-2
 enum-known-answer-2 c = search needs
 
--- src/campaign_file.rt:258:43
 enum-told-2 : tie.Need-enum-told-2
 enum-told-2 c = search needs
 
--- src/campaign_file.rt:258:43
 stop-requires-2 : tie.Need-stop-requires-2
 stop-requires-2 c κs = search needs
 
--- src/campaign_file.rt:258:13
 returns-2 : tie.Need-returns-2
 unfolding registersOf registersAnswer
 returns-2 c =
@@ -60,15 +48,12 @@ returns-2 c =
     let not2 = number-told (c .before .before .before .number2 .ensures) (c .before .enum-told2 .given .1) in
     rw (read1, not2) (ap RegistersRead.Refused (c .stop2 .ensures ∙ ap numberStop (c .before .enum-told2 .given .1)))
 
--- src/campaign_file.rt:261:16
 cast-t13 : tie.Need-cast-t13
 cast-t13 c = let k = c .before .before .before .before in omega (arith, number-within _ _ _ _ _ (number-told (k .before .before .before .number .ensures) (k .before .answer .given .1)) .0)
 
--- src/campaign_file.rt:262:16
 cast-t14 : tie.Need-cast-t14
 cast-t14 c = let k = c in omega (arith, number-within _ _ _ _ _ (number-told (k .before .before .before .number2 .ensures) (k .before .answer2 .given .1)) .0)
 
--- src/campaign_file.rt:248:5
 returns-3 : tie.Need-returns-3
 unfolding registersOf registersAnswer
 returns-3 c =

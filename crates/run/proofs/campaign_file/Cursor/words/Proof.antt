@@ -1,3 +1,5 @@
+-- `run::campaign_file::Cursor::words` meets its contract: each answer tells what the field is in the definition.
+-- Assumes nothing.
 use mathlib.Core.Path.{ap, _∙_}
 use native.Mathlib.Omega.{arith}
 use borrow.Author.Needs.{needs}
@@ -7,51 +9,37 @@ use Rattle.run.proofs.CampaignFile.Answers.{number-told}
 use Rattle.run.proofs.CampaignFile.Number.{number-within}
 use Rattle.run.proofs.campaign_file.Cursor.words.Statement.{statement}
 use Rattle.run.proofs.campaign_file.Cursor.words.Tie as tie
-use Rattle.run.proofs.campaign_file.Cursor.words.Reads as reads
-use Rattle.run.proofs.campaign_file.Cursor.words.Lts as lts
-use Rattle.run.proofs.campaign_file.Cursor.number.Reads as number-reads
-use Rattle.run.proofs.campaign_file.Number.stop.Reads as stop-reads
 
--- src/campaign_file.rt:271:13
 number-requires : tie.Need-number-requires
 number-requires c κs = search needs
 
--- src/campaign_file.rt:272:26
 enum-known-answer : tie.Need-enum-known-answer
 enum-known-answer c = search needs
 
--- src/campaign_file.rt:273:39
 enum-told : tie.Need-enum-told
 enum-told c = search needs
 
--- src/campaign_file.rt:273:39
 stop-requires : tie.Need-stop-requires
 stop-requires c κs = search needs
 
--- src/campaign_file.rt:273:13
 returns : tie.Need-returns
 unfolding wordsOf wordsAnswer
 returns c =
     let not1 = number-told (c .before .before .before .number .ensures) (c .before .enum-told .given .1) in
     rw (not1) (ap WordsRead.Refused (c .stop .ensures ∙ ap numberStop (c .before .enum-told .given .1)))
 
--- src/campaign_file.rt:275:13
 number-requires-2 : tie.Need-number-requires-2
 number-requires-2 c κs = search needs
 
--- src/campaign_file.rt:276:26
 enum-known-answer-2 : tie.Need-enum-known-answer-2
 enum-known-answer-2 c = search needs
 
--- src/campaign_file.rt:277:39
 enum-told-2 : tie.Need-enum-told-2
 enum-told-2 c = search needs
 
--- src/campaign_file.rt:277:39
 stop-requires-2 : tie.Need-stop-requires-2
 stop-requires-2 c κs = search needs
 
--- src/campaign_file.rt:277:13
 returns-2 : tie.Need-returns-2
 unfolding wordsOf wordsAnswer
 returns-2 c =
@@ -60,23 +48,18 @@ returns-2 c =
     let not2 = number-told (c .before .before .before .number2 .ensures) (c .before .enum-told2 .given .1) in
     rw (read1, not2) (ap WordsRead.Refused (c .stop2 .ensures ∙ ap numberStop (c .before .enum-told2 .given .1)))
 
--- src/campaign_file.rt:279:13
 number-requires-3 : tie.Need-number-requires-3
 number-requires-3 c κs = search needs
 
--- src/campaign_file.rt:280:26
 enum-known-answer-3 : tie.Need-enum-known-answer-3
 enum-known-answer-3 c = search needs
 
--- src/campaign_file.rt:281:39
 enum-told-3 : tie.Need-enum-told-3
 enum-told-3 c = search needs
 
--- src/campaign_file.rt:281:39
 stop-requires-3 : tie.Need-stop-requires-3
 stop-requires-3 c κs = search needs
 
--- src/campaign_file.rt:281:13
 returns-3 : tie.Need-returns-3
 unfolding wordsOf wordsAnswer
 returns-3 c =
@@ -87,23 +70,18 @@ returns-3 c =
     let not3 = number-told (c .before .before .before .number3 .ensures) (c .before .enum-told3 .given .1) in
     rw (read1, read2, not3) (ap WordsRead.Refused (c .stop3 .ensures ∙ ap numberStop (c .before .enum-told3 .given .1)))
 
--- src/campaign_file.rt:283:13
 number-requires-4 : tie.Need-number-requires-4
 number-requires-4 c κs = search needs
 
--- src/campaign_file.rt:284:26
 enum-known-answer-4 : tie.Need-enum-known-answer-4
 enum-known-answer-4 c = search needs
 
--- src/campaign_file.rt:285:39
 enum-told-4 : tie.Need-enum-told-4
 enum-told-4 c = search needs
 
--- src/campaign_file.rt:285:39
 stop-requires-4 : tie.Need-stop-requires-4
 stop-requires-4 c κs = search needs
 
--- src/campaign_file.rt:285:13
 returns-4 : tie.Need-returns-4
 unfolding wordsOf wordsAnswer
 returns-4 c =
@@ -116,23 +94,18 @@ returns-4 c =
     let not4 = number-told (c .before .before .before .number4 .ensures) (c .before .enum-told4 .given .1) in
     rw (read1, read2, read3, not4) (ap WordsRead.Refused (c .stop4 .ensures ∙ ap numberStop (c .before .enum-told4 .given .1)))
 
--- src/campaign_file.rt:287:13
 number-requires-5 : tie.Need-number-requires-5
 number-requires-5 c κs = search needs
 
--- src/campaign_file.rt:288:26
 enum-known-answer-5 : tie.Need-enum-known-answer-5
 enum-known-answer-5 c = search needs
 
--- src/campaign_file.rt:289:39
 enum-told-5 : tie.Need-enum-told-5
 enum-told-5 c = search needs
 
--- src/campaign_file.rt:289:39
 stop-requires-5 : tie.Need-stop-requires-5
 stop-requires-5 c κs = search needs
 
--- src/campaign_file.rt:289:13
 returns-5 : tie.Need-returns-5
 unfolding wordsOf wordsAnswer
 returns-5 c =
@@ -147,27 +120,21 @@ returns-5 c =
     let not5 = number-told (c .before .before .before .number5 .ensures) (c .before .enum-told5 .given .1) in
     rw (read1, read2, read3, read4, not5) (ap WordsRead.Refused (c .stop5 .ensures ∙ ap numberStop (c .before .enum-told5 .given .1)))
 
--- src/campaign_file.rt:292:16
 cast-t25 : tie.Need-cast-t25
 cast-t25 c = let k = c .before .before .before .before .before .before .before .before .before .before .before .before .before .before .before .before in omega (arith, number-within _ _ _ _ _ (number-told (k .before .before .before .number .ensures) (k .before .answer .given .1)) .0)
 
--- src/campaign_file.rt:293:16
 cast-t26 : tie.Need-cast-t26
 cast-t26 c = let k = c .before .before .before .before .before .before .before .before .before .before .before .before in omega (arith, number-within _ _ _ _ _ (number-told (k .before .before .before .number2 .ensures) (k .before .answer2 .given .1)) .0)
 
--- src/campaign_file.rt:294:16
 cast-t27 : tie.Need-cast-t27
 cast-t27 c = let k = c .before .before .before .before .before .before .before .before in omega (arith, number-within _ _ _ _ _ (number-told (k .before .before .before .number3 .ensures) (k .before .answer3 .given .1)) .0)
 
--- src/campaign_file.rt:295:16
 cast-t28 : tie.Need-cast-t28
 cast-t28 c = let k = c .before .before .before .before in omega (arith, number-within _ _ _ _ _ (number-told (k .before .before .before .number4 .ensures) (k .before .answer4 .given .1)) .0)
 
--- src/campaign_file.rt:296:16
 cast-t29 : tie.Need-cast-t29
 cast-t29 c = let k = c in omega (arith, number-within _ _ _ _ _ (number-told (k .before .before .before .number5 .ensures) (k .before .answer5 .given .1)) .0)
 
--- src/campaign_file.rt:267:5
 returns-6 : tie.Need-returns-6
 unfolding wordsOf wordsAnswer
 returns-6 c =

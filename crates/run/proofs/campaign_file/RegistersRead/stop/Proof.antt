@@ -1,24 +1,20 @@
+-- `run::campaign_file::RegistersRead::stop` meets its contract.
+-- Assumes nothing.
 use borrow.Author.Needs.{needs}
 use mathlib.Core.Path.{ap, sym}
 use Rattle.run.specs.CampaignFile.{registersStop}
 use Rattle.run.proofs.campaign_file.RegistersRead.stop.Statement.{statement}
 use Rattle.run.proofs.campaign_file.RegistersRead.stop.Tie as tie
-use Rattle.run.proofs.campaign_file.RegistersRead.stop.Reads as reads
-use Rattle.run.proofs.campaign_file.RegistersRead.stop.Lts as lts
 
--- src/campaign_file.rt:143:36
 enum-known-self : tie.Need-enum-known-self
 enum-known-self c = search needs
 
--- src/campaign_file.rt:144:36
 enum-known-self-2 : tie.Need-enum-known-self-2
 enum-known-self-2 c = search needs
 
--- src/campaign_file.rt:139:5
 returns : tie.Need-returns
 returns c = search needs
 
--- src/campaign_file.rt:139:5
 returns-2 : tie.Need-returns-2
 returns-2 c = ap registersStop (sym (c .before .self2 .given .1))
 

@@ -1,24 +1,20 @@
+-- `run::campaign_file::SettingsRead::stop` meets its contract.
+-- Assumes nothing.
 use borrow.Author.Needs.{needs}
 use mathlib.Core.Path.{ap, sym}
 use Rattle.run.specs.CampaignFile.{settingsStop}
 use Rattle.run.proofs.campaign_file.SettingsRead.stop.Statement.{statement}
 use Rattle.run.proofs.campaign_file.SettingsRead.stop.Tie as tie
-use Rattle.run.proofs.campaign_file.SettingsRead.stop.Reads as reads
-use Rattle.run.proofs.campaign_file.SettingsRead.stop.Lts as lts
 
--- src/campaign_file.rt:179:35
 enum-known-self : tie.Need-enum-known-self
 enum-known-self c = search needs
 
--- src/campaign_file.rt:180:35
 enum-known-self-2 : tie.Need-enum-known-self-2
 enum-known-self-2 c = search needs
 
--- src/campaign_file.rt:175:5
 returns : tie.Need-returns
 returns c = search needs
 
--- src/campaign_file.rt:175:5
 returns-2 : tie.Need-returns-2
 returns-2 c = ap settingsStop (sym (c .before .self2 .given .1))
 

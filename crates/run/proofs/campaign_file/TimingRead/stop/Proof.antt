@@ -1,24 +1,20 @@
+-- `run::campaign_file::TimingRead::stop` meets its contract.
+-- Assumes nothing.
 use borrow.Author.Needs.{needs}
 use mathlib.Core.Path.{ap, sym}
 use Rattle.run.specs.CampaignFile.{timingStop}
 use Rattle.run.proofs.campaign_file.TimingRead.stop.Statement.{statement}
 use Rattle.run.proofs.campaign_file.TimingRead.stop.Tie as tie
-use Rattle.run.proofs.campaign_file.TimingRead.stop.Reads as reads
-use Rattle.run.proofs.campaign_file.TimingRead.stop.Lts as lts
 
--- src/campaign_file.rt:167:33
 enum-known-self : tie.Need-enum-known-self
 enum-known-self c = search needs
 
--- src/campaign_file.rt:168:33
 enum-known-self-2 : tie.Need-enum-known-self-2
 enum-known-self-2 c = search needs
 
--- src/campaign_file.rt:163:5
 returns : tie.Need-returns
 returns c = search needs
 
--- src/campaign_file.rt:163:5
 returns-2 : tie.Need-returns-2
 returns-2 c = ap timingStop (sym (c .before .self2 .given .1))
 

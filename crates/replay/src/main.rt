@@ -1,0 +1,514 @@
+// Replays a list of the original's answers, and prints how many calls there were and how many differ. No Rust is needed for it.
+//
+// The list, data/answers0.bin and on, cut between entries, was made so: `oracle list 1500 --seed 7 --out list.txt` wrote 2,423 answers of the original (the directed calls,
+// then 1,500 random ones; stops 1 to 4 and 7 are the oracle's own). A script turned each call into an entry, the answer into document 01's
+// line, and the writes, stored into the given pages, into the two sums below. Then come 121 files that are turned down with 8, 9 or 10: document
+// 01's example cut at every place, with bytes left over, with each field too great or too long, and with random bytes changed; their lines are
+// those that `oracle run FILE` printed, which is the oracle's own reading, for the original has none.
+// An entry, its numbers lowest byte first: the campaign file's length (2 bytes), the two pages' lengths (4 each), the line's length (1), the fill
+// rule's first byte and step (1 each), how many bytes are set after it (1); the campaign file; the line; for each byte that is set its offset (2),
+// page (1) and value (1); the two sums over both pages after the call (8 each). The pages lent are as long as the entry says: the fill rule, then
+// the campaign file's bytes at their start, then the bytes that are set. So pages can be longer than a campaign file holds.
+ghost use mathlib.Core.Path.{_≡_};
+ghost use Prim.Native.Nat.{_+_, _≤_};
+ghost use lib.ListN.{length};
+ghost use Rattle.run.specs.Line.{Printed};
+ghost use Rattle.run.specs.Report.{toldLine};
+use arithmetic::record::Lh5801;
+use libc::STDOUT_FILENO;
+use run::Answer;
+use run::Settings;
+use run::campaign_file;
+use run::campaign_file::Campaign;
+use run::campaign_file::Parsed;
+use run::campaign_file::Refusal;
+use run::line;
+
+// Two running sums over bytes: each byte is added to the first, and then the first to the second, modulo 2^64.
+struct Sums {
+    first: u64,
+    second: u64,
+}
+
+// The fill rule's two bytes.
+struct Rule {
+    first: u8,
+    step: u8,
+}
+
+// How many calls were replayed, and how many of them answered something else than the list.
+struct Tally {
+    calls: u64,
+    differ: u64,
+}
+
+fn wide(byte: u8) -> u64
+    ensures { λ r. ⌜ (r ≡ byte) × (r ≤ 255) ⌝ }
+{
+    byte as u64
+}
+
+// The number of two bytes, the lower first.
+fn two(bytes: &[u8], at: usize) -> u64
+    requires { ⌜ at + 2 ≤ length (now bytes) ⌝ }
+    ensures { λ r. ⌜ r ≤ 65535 ⌝ }
+{
+    wide(bytes[at]) + 256 * wide(bytes[at + 1])
+}
+
+// The number of four bytes, the lowest first.
+fn four(bytes: &[u8], at: usize) -> u64
+    requires { ⌜ at + 4 ≤ length (now bytes) ⌝ }
+    ensures { λ r. ⌜ r ≤ 4294967295 ⌝ }
+{
+    two(bytes, at) + 65536 * two(bytes, at + 2)
+}
+
+// The number of eight bytes, the lowest first.
+fn eight(bytes: &[u8], at: usize) -> u64
+    requires { ⌜ at + 8 ≤ length (now bytes) ⌝ }
+    ensures { λ r. ⌜ r ≤ 18446744073709551615 ⌝ }
+{
+    four(bytes, at) + 4294967296 * four(bytes, at + 4)
+}
+
+// The sums go on over the first bytes of a page.
+fn sums_over(page: &[u8], len: usize, before: Sums) -> Sums
+    requires { ⌜ len ≤ length (now page) ⌝ }
+    ensures { λ r. ⌜ r .first ≤ 18446744073709551615 ⌝ }
+{
+    let mut first = before.first;
+    let mut second = before.second;
+    let mut i = 0;
+    while i < len {
+        first = std::num::wrapping_add_u64(first, wide(page[i]));
+        second = std::num::wrapping_add_u64(second, first);
+        i += 1;
+    }
+    Sums {
+        first: first,
+        second: second,
+    }
+}
+
+// The sums go on over the first bytes of an array; where it has not so many, they are 0.
+fn sums_page(page: &[u8; 65537], len: usize, before: Sums) -> Sums
+    ensures { λ r. ⌜ r .first ≤ 18446744073709551615 ⌝ }
+{
+    if 65537 < len {
+        return Sums {
+            first: 0,
+            second: 0,
+        };
+    }
+    sums_over(page, len, before)
+}
+
+// Bytes from a place on, to the start of a page.
+fn copy_part(bytes: &[u8], at: usize, page: &mut [u8], len: usize)
+    requires { ⌜ (at + len ≤ length (now bytes)) × (len ≤ length (now page)) ⌝ }
+    ensures { λ _. ⌜ length (now (page .exit)) ≡ length (now (page .entry)) ⌝ }
+{
+    let mut i = 0;
+    while i < len {
+        page[i] = bytes[at + i];
+        i += 1;
+    }
+}
+
+// A page's bytes, from a place of the file on, to the start of a page; nothing where they are not all there or do not fit.
+fn copy_page(bytes: &[u8], at: usize, page: &mut [u8], len: usize)
+    ensures { λ _. ⌜ length (now (page .exit)) ≡ length (now (page .entry)) ⌝ }
+{
+    let all = bytes.len();
+    if all < at {
+        return;
+    }
+    if all - at < len {
+        return;
+    }
+    if page.len() < len {
+        return;
+    }
+    copy_part(bytes, at, page, len);
+}
+
+// The fill rule's byte at offset i from the one before it: a step on, and four steps on where a block of 256 begins, modulo 256.
+fn next_byte(byte: u8, step: u8, i: usize) -> u8
+    ensures { λ r. ⌜ r ≤ 255 ⌝ }
+{
+    let next = std::num::wrapping_add_u8(byte, step);
+    if i % 256 == 0 {
+        let next = std::num::wrapping_add_u8(next, step);
+        let next = std::num::wrapping_add_u8(next, step);
+        return std::num::wrapping_add_u8(next, step);
+    }
+    next
+}
+
+// The first bytes of a page by the fill rule.
+fn fill(page: &mut [u8], len: usize, first: u8, step: u8)
+    ensures { λ _. ⌜ length (now (page .exit)) ≡ length (now (page .entry)) ⌝ }
+{
+    let mut byte = first;
+    let mut i = 0;
+    while i < len && i < page.len() {
+        page[i] = byte;
+        i += 1;
+        byte = next_byte(byte, step, i);
+    }
+}
+
+// One byte of a page, where it is this page's and lies in it.
+fn set(page: &mut [u8], is_here: bool, offset: usize, byte: u8)
+    ensures { λ _. ⌜ length (now (page .exit)) ≡ length (now (page .entry)) ⌝ }
+{
+    if is_here && offset < page.len() {
+        page[offset] = byte;
+    }
+}
+
+// The bytes that are set after the fill rule in one page: in groups of four the offset in two bytes, the page, and the byte.
+fn patch(page: &mut [u8], which: u64, sets: &[u8])
+    ensures { λ _. ⌜ length (now (page .exit)) ≡ length (now (page .entry)) ⌝ }
+{
+    let mut i = 0;
+    while 4 <= sets.len() - i {
+        let offset = two(sets, i) as usize;
+        set(page, wide(sets[i + 2]) == which, offset, sets[i + 3]);
+        i += 4;
+    }
+}
+
+// A page before the call: the fill rule, then the file's bytes, then the bytes that are set.
+fn prepare(
+    page: &mut [u8],
+    which: u64,
+    len: usize,
+    rule: Rule,
+    file: &[u8],
+    at: usize,
+    count: usize,
+    sets: &[u8],
+)
+    ensures { λ _. ⌜ length (now (page .exit)) ≡ length (now (page .entry)) ⌝ }
+{
+    fill(page, len, rule.first, rule.step);
+    copy_page(file, at, page, count);
+    patch(page, which, sets);
+}
+
+// The run call on the starts of two buffers.
+fn run_parts(
+    cpu: Lh5801,
+    page0: &mut [u8],
+    len0: usize,
+    page1: &mut [u8],
+    len1: usize,
+    settings: Settings,
+) -> Answer
+    requires { ⌜ (len0 ≤ length (now page0)) × (len1 ≤ length (now page1)) ⌝ }
+    ensures { λ _. ⌜ (length (now (page0 .exit)) ≡ length (now (page0 .entry))) × (length (now (page1 .exit)) ≡ length (now (page1 .entry))) ⌝ }
+{
+    run::run(cpu, &mut page0[..len0], &mut page1[..len1], settings)
+}
+
+// The run call on the starts of two arrays.
+fn run_pages(
+    cpu: Lh5801,
+    page0: &mut [u8; 65537],
+    len0: usize,
+    page1: &mut [u8; 65537],
+    len1: usize,
+    settings: Settings,
+) -> Answer
+    requires { ⌜ (len0 ≤ 65537) × (len1 ≤ 65537) ⌝ }
+    ensures { λ _. ⌜ (length (now (page0 .exit)) ≡ length (now (page0 .entry))) × (length (now (page1 .exit)) ≡ length (now (page1 .entry))) ⌝ }
+{
+    run_parts(cpu, page0, len0, page1, len1, settings)
+}
+
+// The line of a call.
+fn told_line(out: &mut [u8; 200], a: Answer) -> usize
+    ensures { λ r. ⌜ Printed (now (out .entry)) (toldLine a) (now (out .exit)) r ⌝ }
+{
+    let end = a.end;
+    let cpu = a.cpu;
+    line::line(out, run::number(end), a.steps, a.states, cpu)
+}
+
+// 0 where the first bytes of a buffer, so many, are those of the wanted line, else 1.
+fn line_differs(out: &[u8; 200], n: usize, want: &[u8]) -> u64
+    ensures { λ r. ⌜ r ≤ 1 ⌝ }
+{
+    if n != want.len() {
+        return 1;
+    }
+    let mut i = 0;
+    while i < want.len() && i < out.len() {
+        if out[i] != want[i] {
+            return 1;
+        }
+        i += 1;
+    }
+    if i == want.len() { 0 } else { 1 }
+}
+
+// 0 where the sums are the wanted ones, else 1.
+fn sums_differ(sums: Sums, want: Sums) -> u64
+    ensures { λ r. ⌜ r ≤ 1 ⌝ }
+{
+    if sums.first == want.first && sums.second == want.second {
+        0
+    } else {
+        1
+    }
+}
+
+// 0 where neither differs, else 1.
+fn either(line: u64, sums: u64) -> u64
+    ensures { λ r. ⌜ r ≤ 1 ⌝ }
+{
+    if line == 0 && sums == 0 { 0 } else { 1 }
+}
+
+// A file that was read: its call, on pages of the given lengths, which the fill rule, the file and the bytes that are set make.
+fn call_differs(
+    file: &[u8],
+    c: Parsed,
+    len0: usize,
+    len1: usize,
+    rule: Rule,
+    sets: &[u8],
+    want: &[u8],
+    want_sums: Sums,
+) -> u64
+    requires { ⌜ (len0 ≤ 65537) × (len1 ≤ 65537) ⌝ }
+    ensures { λ r. ⌜ r ≤ 1 ⌝ }
+{
+    let mut page0 = [0u8; 65537];
+    let mut page1 = [0u8; 65537];
+    let mut out = [0u8; 200];
+    prepare(
+        &mut page0,
+        0,
+        len0,
+        rule,
+        file,
+        c.page0_at,
+        c.page0_len,
+        sets,
+    );
+    prepare(
+        &mut page1,
+        1,
+        len1,
+        rule,
+        file,
+        c.page1_at,
+        c.page1_len,
+        sets,
+    );
+    let cpu = c.cpu;
+    let settings = c.settings;
+    let a = run_pages(cpu, &mut page0, len0, &mut page1, len1, settings);
+    let n = told_line(&mut out, a);
+    let none = Sums {
+        first: 0,
+        second: 0,
+    };
+    let sums = sums_page(&page0, len0, none);
+    let sums = sums_page(&page1, len1, sums);
+    either(line_differs(&out, n, want), sums_differ(sums, want_sums))
+}
+
+// A file that was turned down: its line.
+fn refusal_differs(stop: Refusal, want: &[u8]) -> u64
+    ensures { λ r. ⌜ r ≤ 1 ⌝ }
+{
+    let mut out = [0u8; 200];
+    let n = line::refusal_line(&mut out, stop.number(), stop.offset() as u64);
+    line_differs(&out, n, want)
+}
+
+// One call of the list.
+fn differs(
+    file: &[u8],
+    len0: u64,
+    len1: u64,
+    rule: Rule,
+    sets: &[u8],
+    want: &[u8],
+    want_sums: Sums,
+) -> u64
+    ensures { λ r. ⌜ r ≤ 1 ⌝ }
+{
+    if 65537 < len0 {
+        return 1;
+    }
+    if 65537 < len1 {
+        return 1;
+    }
+    let read = campaign_file::read_campaign(file);
+    match read {
+        Campaign::Read(c) => call_differs(
+            file,
+            c,
+            len0 as usize,
+            len1 as usize,
+            rule,
+            sets,
+            want,
+            want_sums,
+        ),
+        Campaign::Refused(stop) => refusal_differs(stop, want),
+    }
+}
+
+// The place after the entry that begins here.
+fn end_of(bytes: &[u8], at: usize) -> usize
+    requires { ⌜ at + 14 ≤ length (now bytes) ⌝ }
+    ensures { λ r. ⌜ at + 30 ≤ r ⌝ }
+{
+    at
+        + 30
+        + two(bytes, at) as usize
+        + wide(bytes[at + 10]) as usize
+        + 4 * wide(bytes[at + 13]) as usize
+}
+
+// The entry that begins here and ends there.
+fn entry_differs(bytes: &[u8], at: usize, end: usize) -> u64
+    requires { ⌜ (at + 30 ≤ end) × (end ≤ length (now bytes)) ⌝ }
+    ensures { λ r. ⌜ r ≤ 1 ⌝ }
+{
+    let len0 = four(bytes, at + 2);
+    let len1 = four(bytes, at + 6);
+    let rule = Rule {
+        first: bytes[at + 11],
+        step: bytes[at + 12],
+    };
+    let from = at + 14;
+    let to = end - 16;
+    let middle = from + two(bytes, at) as usize;
+    let last = middle + wide(bytes[at + 10]) as usize;
+    if to < last {
+        return 1;
+    }
+    let want_sums = Sums {
+        first: eight(bytes, to),
+        second: eight(bytes, to + 8),
+    };
+    differs(
+        &bytes[from..middle],
+        len0,
+        len1,
+        rule,
+        &bytes[last..to],
+        &bytes[middle..last],
+        want_sums,
+    )
+}
+
+// What is found at a place of the list: where the next entry begins, and 1 where the call differs.
+struct Found {
+    end: usize,
+    differs: u64,
+}
+
+// The entry that begins here. One that is cut off counts as a call that differs, and ends the list.
+fn entry(bytes: &[u8], at: usize) -> Found
+    requires { ⌜ at + 1 ≤ length (now bytes) ⌝ }
+    ensures { λ r. ⌜ (at + 1 ≤ r .end) × (r .end ≤ length (now (bytes .entry))) × (r .differs ≤ 1) ⌝ }
+{
+    let all = bytes.len();
+    if all - at < 14 {
+        return Found {
+            end: all,
+            differs: 1,
+        };
+    }
+    let end = end_of(bytes, at);
+    if all < end {
+        return Found {
+            end: all,
+            differs: 1,
+        };
+    }
+    let found = entry_differs(bytes, at, end);
+    Found {
+        end: end,
+        differs: found,
+    }
+}
+
+// The whole list.
+fn replay(bytes: &[u8]) -> Tally
+    ensures { λ r. ⌜ (r .differ ≤ r .calls) × (r .calls ≤ length (now (bytes .entry))) ⌝ }
+{
+    let mut at = 0;
+    let mut calls: u64 = 0;
+    let mut differ: u64 = 0;
+    while at < bytes.len() {
+        let found = entry(bytes, at);
+        at = found.end;
+        calls += 1;
+        differ += found.differs;
+    }
+    Tally {
+        calls: calls,
+        differ: differ,
+    }
+}
+
+// The part of the list in an open file.
+fn replay_file(fd: i32) -> Tally
+    ensures { λ r. ⌜ r .differ ≤ r .calls ⌝ }
+{
+    let mut bytes = [0u8; 65536];
+    let n = io::read_full(fd, &mut bytes);
+    replay(&bytes[..n])
+}
+
+// The part of the list in the file of this name; no call where it cannot be opened.
+fn replay_path(path: &[u8]) -> Tally
+    ensures { λ r. ⌜ r .differ ≤ r .calls ⌝ }
+{
+    let fd = os::open_read(path);
+    if fd < 0 {
+        os::fail(path);
+        return Tally {
+            calls: 0,
+            differ: 0,
+        };
+    }
+    let tally = replay_file(fd);
+    libc::close(fd);
+    tally
+}
+
+// Both parts of the list, modulo 2^64.
+fn both(a: Tally, b: Tally) -> Tally
+    ensures { λ r. ⌜ r .calls ≤ 18446744073709551615 ⌝ }
+{
+    let calls = std::num::wrapping_add_u64(a.calls, b.calls);
+    let differ = std::num::wrapping_add_u64(a.differ, b.differ);
+    Tally {
+        calls: calls,
+        differ: differ,
+    }
+}
+
+fn main() {
+    let tally = replay_path(b"answers0.bin");
+    let tally = both(tally, replay_path(b"answers1.bin"));
+    let tally = both(tally, replay_path(b"answers2.bin"));
+    let tally = both(tally, replay_path(b"answers3.bin"));
+    let tally = both(tally, replay_path(b"answers4.bin"));
+    let tally = both(tally, replay_path(b"answers5.bin"));
+    let tally = both(tally, replay_path(b"answers6.bin"));
+    io::print_decimal(STDOUT_FILENO, tally.calls);
+    io::write_all(STDOUT_FILENO, b" calls, ");
+    io::print_decimal(STDOUT_FILENO, tally.differ);
+    io::write_all(STDOUT_FILENO, b" differ\n");
+}

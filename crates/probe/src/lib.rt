@@ -1,6 +1,8 @@
-// Entries through which oracle/ runs the arithmetic against the original, on every input.
+// Entries through which oracle/ runs the arithmetic against the original, on every input, and campaign files against its own reader.
 ghost use mathlib.Core.Path.{_≡_};
 ghost use Prim.Native.Nat.{_+_, _*_};
+ghost use Rattle.run.specs.Line.{Printed};
+ghost use Rattle.run.specs.Report.{reportOf};
 ghost use Rattle.probe.specs.Answers.{blankOf, packed, ofRecord, ofSum, ofMoved, arithmeticAnswer, addAnswer, adrAnswer};
 use arithmetic::Moved;
 use arithmetic::Sum;
@@ -110,4 +112,13 @@ pub extern "C" fn probe_adr(t: u8, reg: u16, a: u8) -> u32
 {
     let s = arithmetic::adr(t, reg, a);
     s.value as u32 * 256 + s.t as u32
+}
+
+// The line of a campaign file, as the program campaign prints it, at the start of a buffer; its length is returned.
+// In C: probe_report(bytes, length, out), with 200 bytes at out.
+#[no_mangle]
+pub extern "C" fn probe_report(bytes: &[u8], out: &mut [u8; 200]) -> usize
+    ensures { λ r. ⌜ Printed (now (out .entry)) (reportOf (now (bytes .entry))) (now (out .exit)) r ⌝ }
+{
+    run::report::report(bytes, out)
 }

@@ -1,11 +1,8 @@
-//! Campaign files, valid, cut, damaged and random, through the port's program and through the
-//! oracle's own reader and the original: the same line each time.
+//! Campaign files, valid, cut, damaged and random, through the port's library or program and through
+//! the oracle's own reader and the original: the same line each time.
 
 #![forbid(unsafe_code)]
 
-use std::io::{ErrorKind, Write};
-use std::path::{Path, PathBuf};
-use std::process::{Command, Stdio};
 use std::sync::atomic::{AtomicBool, AtomicU64, Ordering};
 use std::thread;
 use std::time::{Duration, Instant};
@@ -13,7 +10,8 @@ use std::time::{Duration, Instant};
 use bare::Pc1500;
 
 use crate::call::{Call, Side};
-use crate::campaign::{self, number, numbers, GREATEST, GREATEST_INPUT};
+use crate::campaign::{self, number, numbers, GREATEST};
+use crate::lines::Source;
 use crate::original::Original;
 use crate::progress::Progress;
 use crate::random::{self, Random};
@@ -29,7 +27,7 @@ const LENGTH_0: usize = 14;
 pub struct Settings {
     pub files: u64,
     pub seed: u64,
-    pub program: PathBuf,
+    pub source: Source,
 }
 
 /// A file in parts: sixteen numbers as they are written, and the bytes of two pages.
@@ -246,8 +244,7 @@ fn page_edges(base: &Draft) -> Vec<Vec<u8>> {
 
 /// The line that the oracle has for a file.
 fn expected(file: &[u8]) -> Result<String, String> {
-    let read = &file[..file.len().min(GREATEST_INPUT as usize)];
-    let call = match campaign::read(read) {
+    let call = match campaign::read(file) {
         Ok(call) => call,
         Err(defect) => return Ok(defect.line()),
     };
@@ -261,36 +258,17 @@ fn expected(file: &[u8]) -> Result<String, String> {
     Ok(format!("{} {} {} {record}", told.number, told.steps, told.states))
 }
 
-/// What the program prints for a file.
-fn printed(program: &Path, file: &[u8]) -> Result<String, String> {
-    let failed = |error| format!("{}: {error}", program.display());
-    let mut command = Command::new(program);
-    let pipes = command.stdin(Stdio::piped()).stdout(Stdio::piped()).stderr(Stdio::piped());
-    let mut child = pipes.spawn().map_err(failed)?;
-    let mut input = child.stdin.take().ok_or("no standard input")?;
-    match input.write_all(file) {
-        // The program reads 33,000 bytes and may end before it is given more.
-        Err(error) if error.kind() != ErrorKind::BrokenPipe => return Err(failed(error)),
-        _ => drop(input),
-    }
-    let output = child.wait_with_output().map_err(failed)?;
-    if !output.status.success() || !output.stderr.is_empty() {
-        let error = String::from_utf8_lossy(&output.stderr);
-        return Err(format!("the program ended with {}: {error}", output.status));
-    }
-    String::from_utf8(output.stdout).map_err(|_| "the line is not text".to_string())
-}
-
-/// The number of a file's line, or how the program and the oracle differ on it.
-fn check(program: &Path, file: &[u8]) -> Result<usize, String> {
-    let line = expected(file).map_err(|message| format!("the original failed: {message}"))?;
-    match printed(program, file) {
+/// The number of a file's line, or how the port and the oracle differ on it.
+fn check(source: &Source, file: &[u8]) -> Result<usize, String> {
+    let line = expected(source.read(file));
+    let line = line.map_err(|message| format!("the original failed: {message}"))?;
+    match source.line(file) {
         Ok(text) if text.strip_suffix('\n') == Some(&line) => {
             let number = line.split(' ').next().and_then(|word| word.parse().ok());
             number.ok_or(format!("not a line: {line}"))
         }
-        Ok(text) => Err(format!("oracle {line:?} and a newline, program {text:?}")),
-        Err(message) => Err(format!("oracle {line:?}, program: {message}")),
+        Ok(text) => Err(format!("oracle {line:?} and a newline, port {text:?}")),
+        Err(message) => Err(format!("oracle {line:?}, port: {message}")),
     }
 }
 
@@ -313,7 +291,7 @@ fn work(settings: &Settings, thread: u64, shared: &Shared) -> Option<Vec<u8>> {
         }
         let random = || file(&mut Random::new(settings.seed, index - directed.len() as u64));
         let file = directed.get(index as usize).cloned().unwrap_or_else(random);
-        let Ok(number) = check(&settings.program, &file) else {
+        let Ok(number) = check(&settings.source, &file) else {
             shared.ended.store(true, Ordering::Relaxed);
             return Some(file);
         };
@@ -325,8 +303,8 @@ fn work(settings: &Settings, thread: u64, shared: &Shared) -> Option<Vec<u8>> {
 
 /// Runs the files; true where every line is the same.
 pub fn run(settings: &Settings) -> bool {
-    let Settings { files, seed, program } = settings;
-    println!("seed {seed}, {} against the oracle", program.display());
+    let Settings { files, seed, source } = settings;
+    println!("seed {seed}, {source} against the oracle");
     let shared = Shared::default();
     let begin = Instant::now();
     let failing = thread::scope(|scope| {
@@ -343,20 +321,20 @@ pub fn run(settings: &Settings) -> bool {
         ended.fold(None, |found, more| found.or(more))
     });
     if let Some(file) = failing {
-        report(program, file);
+        report(source, file);
         return false;
     }
     let numbers = shared.numbers.iter().map(|count| count.load(Ordering::Relaxed)).enumerate();
     let numbers: Vec<_> = numbers.map(|(i, count)| format!("{i}: {count}")).collect();
     println!("numbers: {}", numbers.join(" "));
     let done = shared.done.load(Ordering::Relaxed);
-    let rate = done as f64 / begin.elapsed().as_secs_f64();
-    println!("{done} files ({} of them directed), 0 differences, {rate:.0} a second", done - files);
+    let seconds = begin.elapsed().as_secs_f64();
+    println!("{done} files ({} of them directed), 0 differences, {seconds:.1} s", done - files);
     true
 }
 
 /// Takes bytes out of a failing file, then turns bytes to zero, while it still fails.
-fn smaller(program: &Path, mut file: Vec<u8>) -> Vec<u8> {
+fn smaller(source: &Source, mut file: Vec<u8>) -> Vec<u8> {
     let mut size = file.len().next_power_of_two();
     while size > 0 {
         let mut begin = 0;
@@ -365,10 +343,10 @@ fn smaller(program: &Path, mut file: Vec<u8>) -> Vec<u8> {
             let shorter = [&file[..begin], &file[end..]].concat();
             let mut zeroed = file.clone();
             zeroed[begin..end].fill(0);
-            if check(program, &shorter).is_err() {
+            if check(source, &shorter).is_err() {
                 file = shorter;
             } else {
-                if zeroed != file && check(program, &zeroed).is_err() {
+                if zeroed != file && check(source, &zeroed).is_err() {
                     file = zeroed;
                 }
                 begin = end;
@@ -379,12 +357,12 @@ fn smaller(program: &Path, mut file: Vec<u8>) -> Vec<u8> {
     file
 }
 
-fn report(program: &Path, file: Vec<u8>) {
+fn report(source: &Source, file: Vec<u8>) {
     println!("a file of {} bytes differs; making it smaller", file.len());
-    let file = smaller(program, file);
+    let file = smaller(source, file);
     let digits: Vec<String> = file.iter().map(|byte| format!("{byte:02X}")).collect();
     println!("smallest failing file found, {} bytes: {}", file.len(), digits.join(" "));
-    println!("{}", check(program, &file).err().unwrap_or_default());
+    println!("{}", check(source, &file).err().unwrap_or_default());
 }
 
 #[cfg(test)]

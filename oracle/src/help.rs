@@ -9,7 +9,8 @@ oracle run [FILE]          the original's line for a campaign file
 oracle compare N           N random calls, the original against the model or the port
 oracle differential        100 million steps, the original against the port
 oracle rerun N             N runs through the port, cut into lists of calls on differing pages
-oracle campaign N          N campaign files through the port's program
+oracle campaign N          N campaign files through the port's library or program
+oracle replay              the list of crates/replay through the port's libraries
 oracle speed               the speed of the original and of the port
 oracle once WAY FILE       one run of a campaign file, for an instruction count
 oracle symbols             the functions of the port's archive
@@ -84,14 +85,29 @@ smallest failing input it finds and ends with status 1. It wants the feature `po
 pub const CAMPAIGN_HELP: &str = "\
 oracle campaign N [--seed S] [--program PATH]
 
-Gives campaign files to the port's program, which is run once for each on two threads, and compares
-what it prints with the line of the oracle's own reader and the original. First some directed files
-(every prefix of two files, every number at its edges, the edges of the pages), then N random ones:
-valid, cut, damaged and without form. At a difference it prints the smallest failing file it finds
-and ends with status 1.
+Gives campaign files to the port and compares its line, byte by byte, with the line of the oracle's
+own reader and the original. The port is the function of its library that makes the line
+(probe_report of libprobe.a), on two threads; with --program, or where the oracle was built without
+the feature `probe`, it is the port's program, which is run once for each file. First come some
+directed files (every prefix of two files, every number at its edges, the edges of the pages), then
+N random ones: valid, cut, damaged and without form. At a difference it prints the smallest failing
+file it finds and ends with status 1.
 
 --seed S         the seed, a decimal number; 1 without it
---program PATH   the program; ../target/bin/campaign without it. It reads standard input
+--program PATH   the program, which reads standard input; without the feature `probe` it is
+                 ../target/bin/campaign where none is named
+";
+
+pub const REPLAY_HELP: &str = "\
+oracle replay [DIR]
+
+Replays the list that the port's program `replay` holds, from the files answers0.bin and on of DIR,
+or of ../crates/replay/data: every call through lh5801_run, with the line and two sums over both
+pages compared; every file that is turned down through probe_report, with its line compared. A
+difference ends with status 1. It wants the features `port` and `probe`.
+
+Each page, the words, each file and the line's buffer are blocks of the heap that are exactly as
+long as they have to be, so that an access past an end is seen by valgrind; see ../memcheck.
 ";
 
 pub const SPEED_HELP: &str = "\
@@ -127,27 +143,32 @@ Without ARCHIVE it is the one that this oracle was built for.
 
 pub const LIST_HELP: &str = "\
 oracle list N [--seed S] [--out FILE]
-oracle list --check FILE [--model]
+oracle list --check FILE [--side original|model|port]
 
 Writes a list of the original's answers: the directed calls, then N random ones, one call a line;
-the file's head tells the format. Or reads such a list and compares every answer with the
-original's; a difference ends with status 1.
+the file's head tells the format. Or reads such a list and compares every answer with a side's; a
+difference ends with status 1.
 
 --seed S       the seed, a decimal number; 1 without it
 --out FILE     where to write; standard output without it
 --check FILE   the list to check
---model        check against the model instead
+--side NAME    check against this side; the original without it. The port does not tell its
+               writes, so that its pages are compared instead. port wants the feature `port`
+";
+
+/// How an oracle with the probe is built.
+pub const PROBE_HELP: &str = "\
+To build it with the probe:
+
+  rt staticlib lh5801 && rt staticlib probe    (at the repository's top)
+  cargo build --release --features port,probe  (in oracle/)
+
+The environment variable PROBE_LIB_DIR names another folder of libprobe.a than ../target/staticlib.
 ";
 
 pub const ARITHMETIC_HELP: &str = "\
 oracle arithmetic
 
 Compares the original's private arithmetic methods with the port's static library libprobe.a over
-all inputs, one line a function; a difference ends with status 1. The command is there when the
-oracle is built with the feature `probe`:
-
-  rt staticlib probe                                  (at the repository's top)
-  cargo run --release --features probe -- arithmetic  (in oracle/)
-
-The environment variable PROBE_LIB_DIR names another folder of libprobe.a than ../target/staticlib.
+all inputs, one line a function; a difference ends with status 1. It wants the feature `probe`.
 ";

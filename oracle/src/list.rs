@@ -283,7 +283,8 @@ pub fn check(text: &str, side: &mut dyn Side) -> Result<(usize, Vec<usize>), Str
     Ok((calls, differing))
 }
 
-/// The answer is the expected one, and the pages are the given ones with its writes stored.
+/// The answer is the expected one, and the pages are the given ones with its writes stored. A side
+/// that does not tell its accesses is held to the pages alone.
 fn agrees(call: &Call, expected: &Expected, answer: &Answer) -> bool {
     let mut pages = call.pages.clone();
     for (address, byte) in &expected.writes {
@@ -292,7 +293,11 @@ fn agrees(call: &Call, expected: &Expected, answer: &Answer) -> bool {
             *place = *byte;
         }
     }
-    answer.failure.is_none() && Expected::of(answer) == *expected && answer.pages == pages
+    let mut told = Expected::of(answer);
+    if answer.log.is_none() {
+        told.writes.clone_from(&expected.writes);
+    }
+    answer.failure.is_none() && told == *expected && answer.pages == pages
 }
 
 #[cfg(test)]

@@ -11,6 +11,7 @@ mod differential;
 mod directed;
 mod fuzz;
 mod help;
+mod lines;
 mod list;
 mod memory;
 mod model;
@@ -20,6 +21,7 @@ mod port;
 mod probe;
 mod progress;
 mod random;
+mod replay;
 mod rerun;
 mod shrink;
 mod speed;
@@ -39,20 +41,26 @@ use arguments::Arguments;
 use bare::{call, opcodes};
 use call::{Answer, Call, Side};
 use help::HELP;
+use lines::Source;
 use model::Model;
 use original::Original;
 use port::Port;
 
-/// Where the port's program is without `--program`, and the measured campaign files without
-/// `--bench`.
+/// Where the port's program is without `--program`, the replay list without a folder, and the
+/// measured campaign files without `--bench`.
 const CAMPAIGN: &str = concat!(env!("CARGO_MANIFEST_DIR"), "/../target/bin/campaign");
+const REPLAY: &str = concat!(env!("CARGO_MANIFEST_DIR"), "/../crates/replay/data");
 const BENCH: &str = concat!(env!("CARGO_MANIFEST_DIR"), "/../../shared/bench");
 
-fn side(model: bool) -> Box<dyn Side> {
-    if model {
-        Box::new(Model::default())
-    } else {
-        Box::new(Original)
+const WITHOUT_PROBE: &str = "this oracle was built without the feature `probe`";
+
+/// The side of a name, of which these may be chosen.
+fn side(name: &str, of: &[&str]) -> Result<Box<dyn Side>, String> {
+    match name {
+        _ if !of.contains(&name) => Err(format!("no such side: {name}")),
+        "model" => Ok(Box::new(Model::default())),
+        "port" => wants_port().map(|()| Box::new(Port) as Box<dyn Side>),
+        _ => Ok(Box::new(Original)),
     }
 }
 
@@ -76,7 +84,10 @@ fn run(arguments: &Arguments) -> Result<bool, String> {
             return Ok(true);
         }
     };
-    let answer = side(arguments.has("--model")).call(&call);
+    let answer = match arguments.has("--model") {
+        true => Model::default().call(&call),
+        false => Original.call(&call),
+    };
     if arguments.has("--trace") {
         trace(&call, &answer);
     }
@@ -110,11 +121,7 @@ fn wants_port() -> Result<(), String> {
 }
 
 fn compare(arguments: &Arguments) -> Result<bool, String> {
-    let other: Box<dyn Side> = match arguments.option("--side").unwrap_or("model") {
-        "model" => side(true),
-        "port" => wants_port().map(|()| Box::new(Port))?,
-        name => return Err(format!("no such side: {name}")),
-    };
+    let other = side(arguments.option("--side").unwrap_or("model"), &["model", "port"])?;
     Ok(compare::run(arguments.count()?, arguments.seed()?, other))
 }
 
@@ -131,13 +138,29 @@ fn rerun(arguments: &Arguments) -> Result<bool, String> {
     Ok(rerun::run(arguments.count()?, arguments.seed()?))
 }
 
-fn campaign(arguments: &Arguments) -> Result<bool, String> {
-    let program = PathBuf::from(arguments.option("--program").unwrap_or(CAMPAIGN));
-    let program = program.canonicalize().map_err(|error| {
+/// The library's function, where this oracle has it and no program is named.
+fn source(program: Option<&str>) -> Result<Source, String> {
+    if let (None, Some(report)) = (program, lines::LIBRARY) {
+        return Ok(Source::Library(report));
+    }
+    let program = PathBuf::from(program.unwrap_or(CAMPAIGN));
+    let found = program.canonicalize().map_err(|error| {
         format!("{}: {error}: run `rt check campaign` first, or use --program", program.display())
-    })?;
+    });
+    found.map(Source::Program)
+}
+
+fn campaign(arguments: &Arguments) -> Result<bool, String> {
+    let source = source(arguments.option("--program"))?;
     let (files, seed) = (arguments.count()?, arguments.seed()?);
-    Ok(fuzz::run(&fuzz::Settings { files, seed, program }))
+    Ok(fuzz::run(&fuzz::Settings { files, seed, source }))
+}
+
+fn replay(arguments: &Arguments) -> Result<bool, String> {
+    let folder = arguments.positional(1)?.unwrap_or(REPLAY);
+    wants_port()?;
+    let missing = || format!("{WITHOUT_PROBE}\n\n{}", help::PROBE_HELP);
+    replay::run(Path::new(folder), lines::LIBRARY.ok_or_else(missing)?)
 }
 
 fn speed(arguments: &Arguments) -> Result<bool, String> {
@@ -169,7 +192,7 @@ fn symbols(arguments: &Arguments) -> Result<bool, String> {
 fn list(arguments: &Arguments) -> Result<bool, String> {
     if let Some(file) = arguments.option("--check") {
         arguments.positional(0)?;
-        return check(file, arguments.has("--model"));
+        return check(file, arguments.option("--side").unwrap_or("original"));
     }
     let (count, seed) = (arguments.count()?, arguments.seed()?);
     let Some(file) = arguments.option("--out") else {
@@ -185,9 +208,9 @@ fn list(arguments: &Arguments) -> Result<bool, String> {
     Ok(true)
 }
 
-fn check(file: &str, model: bool) -> Result<bool, String> {
+fn check(file: &str, name: &str) -> Result<bool, String> {
     let text = std::fs::read_to_string(file).map_err(|error| format!("{file}: {error}"))?;
-    let mut side = side(model);
+    let mut side = side(name, &["original", "model", "port"])?;
     let (calls, differing) = list::check(&text, side.as_mut())?;
     for line in &differing {
         println!("line {line} differs");
@@ -204,23 +227,24 @@ fn arithmetic(arguments: &Arguments) -> Result<bool, String> {
 
 #[cfg(not(feature = "probe"))]
 fn arithmetic(_: &Arguments) -> Result<bool, String> {
-    Err(format!("this oracle was built without the feature `probe`\n\n{}", help::ARITHMETIC_HELP))
+    Err(format!("{WITHOUT_PROBE}\n\n{}", help::PROBE_HELP))
 }
 
 /// A command: its name, help, options and function.
 type Command =
     (&'static str, &'static str, &'static [&'static str], fn(&Arguments) -> Result<bool, String>);
 
-const COMMANDS: [Command; 10] = [
+const COMMANDS: [Command; 11] = [
     ("run", help::RUN_HELP, &["--model", "--trace"], run),
     ("compare", help::COMPARE_HELP, &["--seed=", "--side="], compare),
     ("differential", help::DIFFERENTIAL_HELP, &["--steps=", "--seed=", "--threads="], differential),
     ("rerun", help::RERUN_HELP, &["--seed="], rerun),
     ("campaign", help::CAMPAIGN_HELP, &["--seed=", "--program="], campaign),
+    ("replay", help::REPLAY_HELP, &[], replay),
     ("speed", help::SPEED_HELP, &["--rounds=", "--bench="], speed),
     ("once", help::ONCE_HELP, &[], once),
     ("symbols", help::SYMBOLS_HELP, &[], symbols),
-    ("list", help::LIST_HELP, &["--seed=", "--out=", "--check=", "--model"], list),
+    ("list", help::LIST_HELP, &["--seed=", "--out=", "--check=", "--side="], list),
     ("arithmetic", help::ARITHMETIC_HELP, &[], arithmetic),
 ];
 

@@ -89,9 +89,10 @@ pub fn record(words: &Words) -> Result<Record, String> {
     Ok(record)
 }
 
-/// Runs a call on these pages. Half of the calls have bits set above the fields' widths.
+/// Runs a call on these pages. Half of the calls have bits set above the fields' widths. The words
+/// are a block of the heap, so that valgrind tells an access past their end.
 pub fn call(given: &Record, keyboard: u8, limit: u32, pages: &mut [Vec<u8>; 2]) -> Answer {
-    let mut words = words(given);
+    let mut words = Box::new(words(given));
     let noise = words[12].wrapping_mul(0xBF58_476D_1CE4_E5B9);
     if noise & 1 == 1 {
         add_noise(&mut words, noise);
@@ -117,6 +118,7 @@ impl Side for Port {
         "port"
     }
 
+    /// The cloned pages are blocks of the heap of exactly their length.
     fn call(&mut self, given: &Call) -> Answer {
         let mut pages = given.pages.clone();
         let answer = call(&given.record, given.keyboard, given.limit, &mut pages);
@@ -127,7 +129,11 @@ impl Side for Port {
 #[cfg(test)]
 mod tests {
     use super::{add_noise, record, words};
+    #[cfg(feature = "port")]
+    use super::{Call, Port, Side};
     use crate::call::Record;
+    #[cfg(feature = "port")]
+    use crate::original::Original;
     use crate::random::{self, Random};
 
     #[test]
@@ -147,5 +153,57 @@ mod tests {
             assert_eq!(noisy[i], u64::MAX - low);
         }
         assert!(record(&noisy).is_err());
+    }
+
+    /// Marked case 13 of document 01.
+    #[cfg(feature = "port")]
+    #[test]
+    fn the_worked_run() {
+        let page0 = vec![0xB5, 0x15, 0xF9, 0x8C, 0x31, 0x27];
+        let record = Record { x: 5, bf: true, ..Record::default() };
+        let call = Call { record, keyboard: 0, limit: 10, pages: [page0, vec![]] };
+        let line = "5 3 25 42 18 0005 0000 0000 0000 0004 000 008 25 0 25";
+        assert_eq!(Port.call(&call).line(), line);
+    }
+
+    /// STA (X), STA #(X), LDA (Y), LDA #(Y), with X at page 0's last place and Y after it.
+    #[cfg(feature = "port")]
+    fn at_the_ends(lengths: [usize; 2]) -> Call {
+        let code = [0x0E, 0xFD, 0x0E, 0x15, 0xFD, 0x15];
+        let mut pages = lengths.map(|length| vec![0x38; length]);
+        for (place, byte) in pages[0].iter_mut().zip(code) {
+            *place = byte;
+        }
+        let [x, y] = [lengths[0].saturating_sub(1), lengths[0]].map(|place| place as u16);
+        let record = Record { a: 0x5A, x, y, bf: true, ..Record::default() };
+        Call { record, keyboard: 0, limit: 6, pages }
+    }
+
+    /// Pages that are empty, short, as long as they may be, and longer, in every pair.
+    #[cfg(feature = "port")]
+    #[test]
+    fn pages_of_every_length() {
+        let lengths = [0, 1, 6, 65_535, 65_536, 65_537, 70_000];
+        for pair in lengths.iter().flat_map(|first| lengths.map(|second| [*first, second])) {
+            let call = at_the_ends(pair);
+            let (answer, wanted) = (Port.call(&call), Original.call(&call));
+            assert_eq!(answer.failure, None, "pages of {pair:?}");
+            assert_eq!(answer.line(), wanted.line(), "pages of {pair:?}");
+            assert_eq!(answer.byte, wanted.byte, "pages of {pair:?}");
+            assert!(answer.pages == wanted.pages, "pages of {pair:?}");
+        }
+    }
+
+    /// A page above 65,536 bytes is told, page 0 first; up to there the run is made.
+    #[cfg(feature = "port")]
+    #[test]
+    fn pages_above_the_greatest_length() {
+        let number = |lengths| Port.call(&at_the_ends(lengths)).number;
+        assert_eq!(number([65_536, 65_536]), 0);
+        assert_eq!(number([65_536, 0]), 0);
+        assert_eq!(number([65_537, 0]), 1);
+        assert_eq!(number([65_537, 65_537]), 1);
+        assert_eq!(number([0, 65_537]), 2);
+        assert_eq!(number([65_536, 65_537]), 2);
     }
 }

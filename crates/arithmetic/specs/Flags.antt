@@ -44,10 +44,12 @@ setFlag t mask v = pick v (bitOr t mask) (bitAnd t (255 - mask))
 abbrev pub checkZ : ℕ → ℕ → ℕ
 checkZ t value = setFlag t ZF (eqb value 0)
 
--- T with C, Z, V and H as given; its upper three bits and IE are kept
+-- T with C, Z, V and H as given, each 0 or 1; its upper three bits and IE are kept
+abbrev pub withBits : ℕ → ℕ → ℕ → ℕ → ℕ → ℕ
+withBits t c z v h = t / 32 * 32 + h * HF + v * VF + z * ZF + t / 2 % 2 * IE + c * CF
+
 unfoldable pub withFlags : ℕ → Bool → Bool → Bool → Bool → ℕ
-withFlags t c z v h =
-    t / 32 * 32 + bitOf h * HF + bitOf v * VF + bitOf z * ZF + t / 2 % 2 * IE + bitOf c * CF
+withFlags t c z v h = withBits t (bitOf c) (bitOf z) (bitOf v) (bitOf h)
 
 -- what a new T tells beside the old one: C, Z, V and H are as given, IE and the upper three bits are the old ones
 pub record FlagsAre (old : ℕ) (c z v h : Bool) (new : ℕ) : Type 0 where

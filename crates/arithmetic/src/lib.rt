@@ -1,7 +1,7 @@
 // Flags and arithmetic of the LH5801.
 ghost use mathlib.Core.Path.{_≡_};
 ghost use Prim.Native.Nat.{_≤_};
-ghost use Rattle.arithmetic.specs.Flags.{bitOf, hasFlag, setFlag, checkZ, withFlags};
+ghost use Rattle.arithmetic.specs.Flags.{bitOf, hasFlag, setFlag, checkZ, withBits, withFlags};
 ghost use Rattle.arithmetic.specs.Sums.{overflowOf, addOf, withSum, adcOf, sbcOf, cpaOf, incOf, decOf, adrOf};
 ghost use Rattle.arithmetic.specs.Decimal.{adjust, decimalOf, dcaOf, dcsOf};
 ghost use Rattle.arithmetic.specs.Logic.{ldaOf, andOf, oraOf, eorOf, bitTestOf, ttaOf};
@@ -71,7 +71,15 @@ fn bit_of(flag: bool) -> u8
     if flag { 1 } else { 0 }
 }
 
-// T with C, Z, V and H as given; its upper three bits and IE are kept.
+// T with C, Z, V and H as given, each 0 or 1; its upper three bits and IE are kept.
+fn with_bits(t: u8, c: u8, z: u8, v: u8, h: u8) -> u8
+    requires { ⌜ (c ≤ 1) × (z ≤ 1) × (v ≤ 1) × (h ≤ 1) ⌝ }
+    ensures { λ r. ⌜ r ≡ withBits t c z v h ⌝ }
+{
+    t / 32 * 32 + h * 16 + v * 8 + z * 4 + t / 2 % 2 * 2 + c
+}
+
+// The same of truth values.
 fn set_flags(t: u8, c: bool, z: bool, v: bool, h: bool) -> u8
     ensures { λ r. ⌜ r ≡ withFlags t c z v h ⌝ }
 {
@@ -79,14 +87,14 @@ fn set_flags(t: u8, c: bool, z: bool, v: bool, h: bool) -> u8
     let over = bit_of(v);
     let zero = bit_of(z);
     let carry = bit_of(c);
-    t / 32 * 32 + half * 16 + over * 8 + zero * 4 + t / 2 % 2 * 2 + carry
+    with_bits(t, carry, zero, over, half)
 }
 
-// V: both operands differ from the result in bit 7.
-fn overflow(left: u8, right: u8, result: u8) -> bool
-    ensures { λ r. ⌜ r ≡ overflowOf left right result ⌝ }
+// V of a sum: both operands differ from the result in bit 7.
+fn overflow(left: u8, right: u8, result: u8) -> u8
+    ensures { λ r. ⌜ (r ≡ bitOf (overflowOf left right result)) × (r ≤ 1) ⌝ }
 {
-    (left / 128 != result / 128) & (right / 128 != result / 128)
+    (left / 128 ^ result / 128) & (right / 128 ^ result / 128)
 }
 
 pub fn add_generic(t: u8, left: u8, right: u8, carry: bool) -> Sum
@@ -95,9 +103,10 @@ pub fn add_generic(t: u8, left: u8, right: u8, carry: bool) -> Sum
     let c = bit_of(carry);
     let sum = left as u16 + right as u16 + c as u16;
     let low = (sum % 256) as u8;
-    let half = left % 16 + right % 16 + c;
+    let half = (left % 16 + right % 16 + c) / 16;
     let v = overflow(left, right, low);
-    let flags = set_flags(t, 256 <= sum, low == 0, v, 16 <= half);
+    let z = bit_of(low == 0);
+    let flags = with_bits(t, (sum / 256) as u8, z, v, half);
     Sum {
         value: low,
         t: flags,
@@ -302,11 +311,16 @@ pub fn shr(cpu: Lh5801) -> Lh5801
 pub fn lop(u: u16) -> Looped
     ensures { λ r. ⌜ r ≡ lopOf u ⌝ }
 {
-    let left = std::num::wrapping_sub_u8((u % 256) as u8, 1);
-    let counted = u / 256 * 256 + left as u16;
-    Looped {
-        u: counted,
-        again: u % 256 != 0,
+    if u % 256 == 0 {
+        Looped {
+            u: u + 255,
+            again: false,
+        }
+    } else {
+        Looped {
+            u: u - 1,
+            again: true,
+        }
     }
 }
 

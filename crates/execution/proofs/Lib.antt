@@ -13,3 +13,4 @@ pub mod Accesses
 pub mod StopsClean
 pub mod Tests
 pub mod StopConditions
+pub mod ReadOrder

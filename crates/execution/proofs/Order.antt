@@ -18,10 +18,11 @@ use Rattle.execution.specs.declared.instructions.Decoded.the-variants.{L
 use Rattle.execution.specs.declared.Fetched.{Fetched}
 use Rattle.execution.specs.declared.Stop.{Stop}
 use Rattle.execution.specs.declared.Stop.the-variants.{Halted}
+use Rattle.execution.specs.declared.Outcome.{Outcome}
 use Rattle.execution.specs.declared.Outcome.the-variants.{Completed, Stopped}
 use Rattle.execution.specs.Instructions.{branchedOf, executeOf}
 use Rattle.execution.specs.States.{addedOf}
-use Rattle.execution.specs.Step.{Kind, off, frozen, entry, instruction, StepEnd, did, stopped, outcomeOf, fetchOf, decodedBy, unlistedBy, obeyOf, instructionOf, enteredOf, reachedOf, poweredOf, stepOf, heldOf}
+use Rattle.execution.specs.Step.{Kind, off, frozen, entry, instruction, StepEnd, did, stopped, outcomeOf, fetchOf, decodedBy, unlistedBy, obeyOf, instructionOf, enteredOf, reachedOf, poweredOf, stepOf, heldOf, timed}
 
 -- a choice by a test that is known. (`rw` with the test would change the record's field too)
 pub chosen-first : {A : Type 0} {b : Bool} (x y : A) → b ≡ true → cond b x y ≡ x
@@ -53,15 +54,6 @@ module _ (m : Lh5801) where
   pub reached-stays : m .«is_timer_reached» ≡ false → reachedOf m ≡ m
   unfolding reachedOf
   reached-stays e = chosen-second (with-is-timer-reached (with-ir1 m true) false) m e
-
--- which keeps TM
-pub reached-tm : (m : Lh5801) → reachedOf m .tm ≡ m .tm
-unfolding reachedOf with-is-timer-reached with-ir1
-reached-tm m = go (m .«is_timer_reached»)
-  where
-    go : (b : Bool) → cond b (with-is-timer-reached (with-ir1 m true) false) m .tm ≡ m .tm
-    go true = refl
-    go false = refl
 
 -- the one test before the instruction
 abbrev test : Bool → Bool → Bool → Bool → Bool → Bool
@@ -115,39 +107,48 @@ module _ (m : Lh5801) (key : ℕ) (e : Bool) (enabled : e ≡ hasFlag (m .t) IE)
       rw (← enabled)
       (free (done (did (timerPartOf m) 0 frozen)) (enteredOf (with-ir1 m false) 0xFFFA) (enteredOf (with-ir2 m false) 0xFFF8) (done (stopped Halted)) (instructionOf m key) (m .ir0) (m .ir1) (m .ir2) e (m .«is_halted») t)
 
--- the slow path by its tests
-after-entry : (l : Lh5801) (vector : ℕ) {p q : Pages} {k r : Lh5801} → Does (entryOf l vector) p k q → r ≡ timerPartOf k
-    → Does (mapped outcomeOf (enteredOf l vector)) p (Completed r) q
-unfolding enteredOf
-after-entry l vector {r = r} d f = does-mapped outcomeOf {r = did r 0 (entry vector)} (does-then _ d (does-done (ap (λ (x : Lh5801). did x 0 (entry vector)) f)))
+-- the slow path by its tests: an enabled request is entered, IR1 before IR2, or none is
+module _ {A B : Type 0} (f : B → ℕ → A) (a d : A) (x y : B) where
+  some-request : (ir0 ir1 ir2 e : Bool) → ir0 ≡ false → ((ir1 || ir2) && e) ≡ true
+      → cond ir0 a (cond (ir1 && e) (f x 0xFFFA) (cond (ir2 && e) (f y 0xFFF8) d)) ≡ f (cond ir1 x y) (cond ir1 0xFFFA 0xFFF8)
+  some-request true ir1 ir2 e z t = cc
+  some-request false true ir2 true z t = refl
+  some-request false true ir2 false z t = cc
+  some-request false false true true z t = refl
+  some-request false false true false z t = cc
+  some-request false false false e z t = cc
+
+  no-request : (ir0 ir1 ir2 e : Bool) → ir0 ≡ false → ((ir1 || ir2) && e) ≡ false
+      → cond ir0 a (cond (ir1 && e) (f x 0xFFFA) (cond (ir2 && e) (f y 0xFFF8) d)) ≡ d
+  no-request true ir1 ir2 e z t = cc
+  no-request false true ir2 true z t = cc
+  no-request false true true false z t = refl
+  no-request false true false false z t = refl
+  no-request false false true true z t = cc
+  no-request false false true false z t = refl
+  no-request false false false e z t = refl
 
 module _ (m : Lh5801) (e : Bool) where
-  pub held-frozen : {p : Pages} {r : Lh5801} → m .ir0 ≡ true → r ≡ timerPartOf m → Does (mapped outcomeOf (heldOf m e)) p (Completed r) p
+  pub held-frozen : {p : Pages} → m .ir0 ≡ true → Does (mapped outcomeOf (heldOf m e)) p (timed (Completed m)) p
   unfolding heldOf
-  held-frozen {r = r} a f =
+  held-frozen a =
       rw (chosen-first (done (did (timerPartOf m) 0 frozen)) (cond (m .ir1 && e) (enteredOf (with-ir1 m false) 0xFFFA) (cond (m .ir2 && e) (enteredOf (with-ir2 m false) 0xFFF8) (done (stopped Halted)))) a)
-      (does-mapped outcomeOf {r = did r 0 frozen} (does-done (ap (λ (x : Lh5801). did x 0 frozen) f)))
+      (does-mapped outcomeOf {r = did (timerPartOf m) 0 frozen} (does-done refl))
 
-  past-ir0 : m .ir0 ≡ false → heldOf m e ≡ cond (m .ir1 && e) (enteredOf (with-ir1 m false) 0xFFFA) (cond (m .ir2 && e) (enteredOf (with-ir2 m false) 0xFFF8) (done (stopped Halted)))
+  pub held-entered : {p q : Pages} {l k : Lh5801} {vector : ℕ} → m .ir0 ≡ false → ((m .ir1 || m .ir2) && e) ≡ true
+      → l ≡ cond (m .ir1) (with-ir1 m false) (with-ir2 m false)
+      → vector ≡ cond (m .ir1) 0xFFFA 0xFFF8
+      → Does (entryOf l vector) p k q
+      → Does (mapped outcomeOf (heldOf m e)) p (timed (Completed k)) q
+  unfolding heldOf enteredOf
+  held-entered {k = k} {vector = vector} a b u v d =
+      rw (some-request enteredOf (done (did (timerPartOf m) 0 frozen)) (done (stopped Halted)) (with-ir1 m false) (with-ir2 m false) (m .ir0) (m .ir1) (m .ir2) e a b, ← u, ← v)
+      (does-mapped outcomeOf {r = did (timerPartOf k) 0 (entry vector)} (does-then _ d (does-done refl)))
+
+  pub held-halted : {p : Pages} → m .ir0 ≡ false → ((m .ir1 || m .ir2) && e) ≡ false → Does (mapped outcomeOf (heldOf m e)) p (timed (Stopped Halted)) p
   unfolding heldOf
-  past-ir0 a = chosen-second (done (did (timerPartOf m) 0 frozen)) (cond (m .ir1 && e) (enteredOf (with-ir1 m false) 0xFFFA) (cond (m .ir2 && e) (enteredOf (with-ir2 m false) 0xFFF8) (done (stopped Halted)))) a
-
-  past-ir1 : m .ir0 ≡ false → (m .ir1 && e) ≡ false → heldOf m e ≡ cond (m .ir2 && e) (enteredOf (with-ir2 m false) 0xFFF8) (done (stopped Halted))
-  past-ir1 a b = past-ir0 a ∙ chosen-second (enteredOf (with-ir1 m false) 0xFFFA) (cond (m .ir2 && e) (enteredOf (with-ir2 m false) 0xFFF8) (done (stopped Halted))) b
-
-  pub held-ir1 : {p q : Pages} {k r : Lh5801} → m .ir0 ≡ false → (m .ir1 && e) ≡ true → Does (entryOf (with-ir1 m false) 0xFFFA) p k q → r ≡ timerPartOf k
-      → Does (mapped outcomeOf (heldOf m e)) p (Completed r) q
-  held-ir1 a b d f =
-      rw (past-ir0 a ∙ chosen-first (enteredOf (with-ir1 m false) 0xFFFA) (cond (m .ir2 && e) (enteredOf (with-ir2 m false) 0xFFF8) (done (stopped Halted))) b)
-      (after-entry (with-ir1 m false) 0xFFFA d f)
-
-  pub held-ir2 : {p q : Pages} {k r : Lh5801} → m .ir0 ≡ false → (m .ir1 && e) ≡ false → (m .ir2 && e) ≡ true → Does (entryOf (with-ir2 m false) 0xFFF8) p k q → r ≡ timerPartOf k
-      → Does (mapped outcomeOf (heldOf m e)) p (Completed r) q
-  held-ir2 a b c d f = rw (past-ir1 a b ∙ chosen-first (enteredOf (with-ir2 m false) 0xFFF8) (done (stopped Halted)) c) (after-entry (with-ir2 m false) 0xFFF8 d f)
-
-  pub held-halted : {p : Pages} → m .ir0 ≡ false → (m .ir1 && e) ≡ false → (m .ir2 && e) ≡ false → Does (mapped outcomeOf (heldOf m e)) p (Stopped Halted) p
-  held-halted a b c =
-      rw (past-ir1 a b ∙ chosen-second (enteredOf (with-ir2 m false) 0xFFF8) (done (stopped Halted)) c)
+  held-halted a b =
+      rw (no-request enteredOf (done (did (timerPartOf m) 0 frozen)) (done (stopped Halted)) (with-ir1 m false) (with-ir2 m false) (m .ir0) (m .ir1) (m .ir2) e a b)
       (does-mapped outcomeOf {r = stopped Halted} (does-done refl))
 
 -- an instruction, by what its byte decodes to
@@ -181,3 +182,11 @@ module _ (m : Lh5801) (key : ℕ) where
   step-off {r = r} e f =
       rw (chosen-second (poweredOf (reachedOf m) key) (done (did (addStateOf m 8) 8 off)) e)
       (does-mapped outcomeOf {r = did r 8 off} (does-done (ap (λ (x : Lh5801). did x 8 off) f)))
+
+-- what a step comes to, by what it was before its timer part
+module _ {A : Prog Outcome} {p q : Pages} {o : Outcome} (d : Does A p (timed o) q) where
+  pub step-completed : {k r : Lh5801} → o ≡ Completed k → r ≡ timerPartOf k → Does A p (Completed r) q
+  step-completed e f = rw f (subst (λ (x : Outcome). Does A p (timed x) q) e d)
+
+  pub step-stopped : {s : Stop} → o ≡ Stopped s → Does A p (Stopped s) q
+  step-stopped e = subst (λ (x : Outcome). Does A p (timed x) q) e d

@@ -115,3 +115,8 @@ heldOf m enabled =
     (cond (m .ir1 && enabled) (enteredOf (with-ir1 m false) 0xFFFA)
     (cond (m .ir2 && enabled) (enteredOf (with-ir2 m false) 0xFFF8)
     (done (stopped Halted))))
+
+-- the code does the timer part in one place, after any completed step with BF set
+abbrev pub timed : Outcome → Outcome
+timed (Completed m) = Completed (timerPartOf m)
+timed (Stopped s) = Stopped s

@@ -1,10 +1,11 @@
 // Decoding and execution of one instruction, and one step.
 ghost use mathlib.Core.Path.{_≡_};
-ghost use Prim.Native.Nat.{_<_};
+ghost use mathlib.Core.Bool.{false, cond};
+ghost use Rattle.arithmetic.specs.Record.{with-ir1, with-ir2};
 ghost use Rattle.pages.specs.Prog.{mapped};
 ghost use Rattle.pages.specs.Contract.{Changes, Reads};
 ghost use Rattle.execution.specs.Instructions.{executeOf};
-ghost use Rattle.execution.specs.Step.{outcomeOf, fetchOf, decodedBy, unlistedBy, instructionOf, reachedOf, poweredOf, stepOf, heldOf};
+ghost use Rattle.execution.specs.Step.{outcomeOf, fetchOf, decodedBy, unlistedBy, instructionOf, reachedOf, poweredOf, stepOf, heldOf, timed};
 use crate::instructions::Decoded;
 use crate::instructions::Instruction;
 use arithmetic::record::Lh5801;
@@ -131,16 +132,15 @@ fn unlisted(fd: bool, byte: u8) -> Stop
     }
 }
 
-// One instruction, its states, and the timer part; or the stop of an unlisted byte.
+// One instruction and its states; or the stop of an unlisted byte.
 fn instruction(cpu: Lh5801, page0: &mut [u8], page1: &mut [u8], keyboard: u8) -> Outcome
-    requires { ⌜ cpu .tm < 512 ⌝ }
-    ensures { λ r. ⌜ Changes (mapped outcomeOf (instructionOf cpu keyboard)) page0 page1 r ⌝ }
+    ensures { λ r. ⌜ Changes (mapped outcomeOf (instructionOf cpu keyboard)) page0 page1 (timed r) ⌝ }
 {
     let o = fetch(cpu.p, page0, page1);
     match decode(o.fd, o.byte) {
         Decoded::Listed(i, states) => {
             let next = execute(cpu.with_p(o.p), page0, page1, keyboard, i);
-            Outcome::Completed(pages::timer_part(pages::add_state(next, states)))
+            Outcome::Completed(pages::add_state(next, states))
         }
         Decoded::Unlisted => Outcome::Stopped(unlisted(o.fd, o.byte)),
     }
@@ -157,29 +157,42 @@ fn reached(cpu: Lh5801) -> Lh5801
     }
 }
 
-// A step in which no instruction is executed.
+// Where an enabled request leads: IR1 goes before IR2.
+fn vector_of(cpu: Lh5801) -> u16
+    ensures { λ r. ⌜ r ≡ cond (cpu .ir1) 0xFFFA 0xFFF8 ⌝ }
+{
+    if cpu.ir1 { 0xfffa } else { 0xfff8 }
+}
+
+// The record without that request.
+fn answered(cpu: Lh5801) -> Lh5801
+    ensures { λ r. ⌜ r ≡ cond (cpu .ir1) (with-ir1 cpu false) (with-ir2 cpu false) ⌝ }
+{
+    if cpu.ir1 {
+        cpu.with_ir1(false)
+    } else {
+        cpu.with_ir2(false)
+    }
+}
+
+// A step in which no instruction is executed, before its timer part.
 fn held(cpu: Lh5801, page0: &mut [u8], page1: &mut [u8], enabled: bool) -> Outcome
-    requires { ⌜ cpu .tm < 512 ⌝ }
-    ensures { λ r. ⌜ Changes (mapped outcomeOf (heldOf cpu enabled)) page0 page1 r ⌝ }
+    ensures { λ r. ⌜ Changes (mapped outcomeOf (heldOf cpu enabled)) page0 page1 (timed r) ⌝ }
 {
     if cpu.ir0 {
-        return Outcome::Completed(pages::timer_part(cpu));
+        return Outcome::Completed(cpu);
     }
-    if cpu.ir1 & enabled {
-        let next = pages::accept(cpu.with_ir1(false), page0, page1, 0xfffa);
-        return Outcome::Completed(pages::timer_part(next));
-    }
-    if cpu.ir2 & enabled {
-        let next = pages::accept(cpu.with_ir2(false), page0, page1, 0xfff8);
-        return Outcome::Completed(pages::timer_part(next));
+    if (cpu.ir1 | cpu.ir2) & enabled {
+        let at = vector_of(cpu);
+        let next = pages::accept(answered(cpu), page0, page1, at);
+        return Outcome::Completed(next);
     }
     Outcome::Stopped(Stop::Halted)
 }
 
-// A step with BF set: one test tells whether an instruction is due.
+// A step with BF set, before its timer part: one test tells whether an instruction is due.
 fn powered(cpu: Lh5801, page0: &mut [u8], page1: &mut [u8], keyboard: u8) -> Outcome
-    requires { ⌜ cpu .tm < 512 ⌝ }
-    ensures { λ r. ⌜ Changes (mapped outcomeOf (poweredOf cpu keyboard)) page0 page1 r ⌝ }
+    ensures { λ r. ⌜ Changes (mapped outcomeOf (poweredOf cpu keyboard)) page0 page1 (timed r) ⌝ }
 {
     let enabled = arithmetic::get_flag(cpu.t, arithmetic::IE);
     let interrupted = (cpu.ir1 | cpu.ir2) & enabled;
@@ -190,12 +203,15 @@ fn powered(cpu: Lh5801, page0: &mut [u8], page1: &mut [u8], keyboard: u8) -> Out
     }
 }
 
+// A completed step with BF set ends with the timer part.
 pub fn step_cpu(cpu: Lh5801, page0: &mut [u8], page1: &mut [u8], keyboard: u8) -> Outcome
-    requires { ⌜ cpu .tm < 512 ⌝ }
     ensures { λ r. ⌜ Changes (mapped outcomeOf (stepOf cpu keyboard)) page0 page1 r ⌝ }
 {
     if cpu.bf {
-        powered(reached(cpu), page0, page1, keyboard)
+        match powered(reached(cpu), page0, page1, keyboard) {
+            Outcome::Completed(next) => Outcome::Completed(pages::timer_part(next)),
+            Outcome::Stopped(stop) => Outcome::Stopped(stop),
+        }
     } else {
         Outcome::Completed(pages::add_state(cpu, 8))
     }

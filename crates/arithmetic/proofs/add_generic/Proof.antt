@@ -1,4 +1,6 @@
+use Rattle.arithmetic.specs.Flags.{withFlags}
 use Rattle.arithmetic.specs.Sums.{addOf}
+use Rattle.arithmetic.proofs.Bytes.{carry-over, half-over}
 use borrow.Author.Needs.{needs}
 use Rattle.arithmetic.proofs.add_generic.Statement.{statement}
 use Rattle.arithmetic.proofs.add_generic.Tie as tie
@@ -27,12 +29,22 @@ add-half-2 c = search needs
 overflow-requires : tie.Need-overflow-requires
 overflow-requires c κs = search needs
 
-set-flags-requires : tie.Need-set-flags-requires
-set-flags-requires c κs = search needs
+bit-of-requires-2 : tie.Need-bit-of-requires-2
+bit-of-requires-2 c κs = search needs
+
+cast-with-bits : tie.Need-cast-with-bits
+cast-with-bits c = search needs
+
+with-bits-requires : tie.Need-with-bits-requires
+with-bits-requires c κs = search needs
 
 returns : tie.Need-returns
-unfolding addOf
-returns c = cc
+unfolding addOf withFlags
+returns c =
+    cc (
+      carry-over (c .before .before .before .before .args .left) (c .before .before .before .before .args .right) (c .before .before .before .bit-of .result) (search needs) (search needs) (c .before .before .before .bit-of .ensures .1),
+      half-over (c .before .before .before .before .args .left) (c .before .before .before .before .args .right) (c .before .before .before .bit-of .result) (search needs) (search needs) (c .before .before .before .bit-of .ensures .1),
+    )
 
 pub add-generic-spec : {M : Type 1} → statement M
 add-generic-spec =
@@ -46,5 +58,7 @@ add-generic-spec =
     add-half
     add-half-2
     overflow-requires
-    set-flags-requires
+    bit-of-requires-2
+    cast-with-bits
+    with-bits-requires
     returns)

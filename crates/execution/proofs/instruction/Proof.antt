@@ -1,6 +1,3 @@
-use Rattle.execution.proofs.Counters.{executed-small}
-use Rattle.arithmetic.specs.Record.{with-p, with-timer-state, with-ticks}
-use Rattle.pages.specs.Timer.{addStateOf}
 use mathlib.Core.Path.{_∙_, ap, sym}
 use Rattle.pages.specs.Timer.{timerPartOf}
 use Rattle.execution.proofs.Order.{instruction-listed, instruction-unlisted}
@@ -26,10 +23,6 @@ execute-requires c κs = search needs
 add-state-requires : tie.Need-add-state-requires
 add-state-requires c κs = search needs
 
-timer-part-requires : tie.Need-timer-part-requires
-unfolding addStateOf with-p with-timer-state with-ticks
-timer-part-requires c κs = rw (c .add-state .ensures) (executed-small _ _ _ (rw (c .before .before .before .before .before .before .before .before .with-p .ensures) (c .before .before .before .before .before .before .before .before .before .before .before .before .before .before .before .before .before .before .pre)) (c .before .before .before .before .before .execute .ensures))
-
 enum-told : tie.Need-enum-told
 enum-told c = search needs
 
@@ -43,7 +36,7 @@ same-length-2 : tie.Need-same-length-2
 same-length-2 c = search needs
 
 returns : tie.Need-returns
-returns c = instruction-listed (c .before .before .before .before .before .before .before .before .before .before .before .before .before .before .before .before .before .before .before .args .cpu) (c .before .before .before .before .before .before .before .before .before .before .before .before .before .before .before .before .before .before .before .args .keyboard) (c .before .before .before .before .before .before .before .before .before .before .before .before .before .before .fetch .ensures) (sym (c .before .before .before .before .before .before .before .before .before .before .before .before .before .decode .ensures) ∙ c .before .before .before .before .before .before .before .before .before .before .before .i .given .1) (rw (c .before .before .before .before .before .before .before .before .before .with-p .ensures) at (c .before .before .before .before .before .before .execute .ensures)) (c .timer-part .ensures ∙ ap timerPartOf (c .before .add-state .ensures))
+returns c = instruction-listed (c .before .before .before .before .before .before .before .before .before .before .before .before .before .before .before .before .before .before .args .cpu) (c .before .before .before .before .before .before .before .before .before .before .before .before .before .before .before .before .before .before .args .keyboard) (c .before .before .before .before .before .before .before .before .before .before .before .before .before .fetch .ensures) (sym (c .before .before .before .before .before .before .before .before .before .before .before .before .decode .ensures) ∙ c .before .before .before .before .before .before .before .before .before .before .i .given .1) (rw (c .before .before .before .before .before .before .before .before .with-p .ensures) at (c .before .before .before .before .before .execute .ensures)) (ap timerPartOf (c .add-state .ensures))
 
 same-length-3 : tie.Need-same-length-3
 same-length-3 c = search needs
@@ -64,7 +57,6 @@ instruction-spec =
     with-p-requires
     execute-requires
     add-state-requires
-    timer-part-requires
     enum-told
     unlisted-requires
     same-length

@@ -1,0 +1,22 @@
+use mathlib.Core.Bool.{false}
+use mathlib.Core.Path.{_∙_, sym}
+use Rattle.arithmetic.specs.Record.{with-ir1, with-ir2}
+use Rattle.execution.proofs.Order.{chosen-first, chosen-second}
+use borrow.Author.Needs.{needs}
+use Rattle.execution.proofs.answered.Statement.{statement}
+use Rattle.execution.proofs.answered.Tie as tie
+
+with-ir1-requires : tie.Need-with-ir1-requires
+with-ir1-requires c κs = search needs
+
+with-ir2-requires : tie.Need-with-ir2-requires
+with-ir2-requires c κs = search needs
+
+returns : tie.Need-returns
+returns c = c .with-ir1 .ensures ∙ sym (chosen-first (with-ir1 (c .before .before .args .cpu) false) (with-ir2 (c .before .before .args .cpu) false) (c .before .if1 .taken))
+
+returns-2 : tie.Need-returns-2
+returns-2 c = c .with-ir2 .ensures ∙ sym (chosen-second (with-ir1 (c .before .before .args .cpu) false) (with-ir2 (c .before .before .args .cpu) false) (c .before .if1 .left))
+
+pub answered-spec : {M : Type 1} → statement M
+answered-spec = tie.close (tie.spec with-ir1-requires with-ir2-requires returns returns-2)

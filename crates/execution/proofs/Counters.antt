@@ -13,7 +13,9 @@ use Rattle.arithmetic.specs.Shifts.{leftOf, rightOf, lopOf as loopedOf}
 use Rattle.pages.specs.Prog.{Prog, done, _>>=_, read, write}
 use Rattle.pages.specs.Stack.{up16, readopOf, readopWordOf, mem16Of, pushOf, pushWordOf, popOf, popWordOf, pushStateOf, entryOf}
 use Rattle.pages.specs.Timer.{addStateOf}
-use Rattle.pages.proofs.Always.{Always}
+use Rattle.pages.specs.Pages.{Pages}
+use Rattle.pages.specs.Contract.{Does}
+use Rattle.pages.proofs.Always.{Always, always-exec}
 use Rattle.execution.specs.declared.places.Register.{Register}
 use Rattle.execution.specs.declared.places.Register.the-variants.{X, Y, U}
 use Rattle.execution.specs.declared.places.Half.{Half}
@@ -215,3 +217,10 @@ execute-counted m key i small =
 pub entry-kept : (m : Lh5801) (vector : ℕ) → Always (λ k. (k .tm ≡ m .tm) × (k .ticks ≡ m .ticks)) (entryOf m vector)
 unfolding entryOf pushStateOf pushWordOf pushOf mem16Of _>>=_ read write with-s with-t with-p with-is-halted
 entry-kept m vector = λ high low. (refl, refl)
+
+-- what code knows of TM after either
+pub executed-small : (m : Lh5801) (key : ℕ) (i : Instruction) {p q : Pages} {k : Lh5801} → m .tm < 512 → Does (executeOf m key i) p k q → k .tm < 512
+executed-small m key i {p} small d = rw (d .value) (always-exec (Counted m (addedOf m i)) (executeOf m key i) (execute-counted m key i small) p .small)
+
+pub entered-small : (m : Lh5801) (vector : ℕ) {p q : Pages} {k : Lh5801} → m .tm < 512 → Does (entryOf m vector) p k q → k .tm < 512
+entered-small m vector {p} small d = rw (d .value, always-exec (λ k. (k .tm ≡ m .tm) × (k .ticks ≡ m .ticks)) (entryOf m vector) (entry-kept m vector) p .0) small

@@ -55,6 +55,24 @@ module _ (m : Lh5801) where
   unfolding reachedOf
   reached-stays e = chosen-second (with-is-timer-reached (with-ir1 m true) false) m e
 
+-- which keeps TM
+pub reached-tm : (m : Lh5801) → reachedOf m .tm ≡ m .tm
+unfolding reachedOf with-is-timer-reached with-ir1
+reached-tm m = go (m .«is_timer_reached»)
+  where
+    go : (b : Bool) → cond b (with-is-timer-reached (with-ir1 m true) false) m .tm ≡ m .tm
+    go true = refl
+    go false = refl
+
+-- and so does clearing the request that is entered
+pub answered-tm : (m : Lh5801) → cond (m .ir1) (with-ir1 m false) (with-ir2 m false) .tm ≡ m .tm
+unfolding with-ir1 with-ir2
+answered-tm m = go (m .ir1)
+  where
+    go : (b : Bool) → cond b (with-ir1 m false) (with-ir2 m false) .tm ≡ m .tm
+    go true = refl
+    go false = refl
+
 -- the one test before the instruction
 abbrev test : Bool → Bool → Bool → Bool → Bool → Bool
 test ir0 ir1 ir2 e h = (ir0 || ((ir1 || ir2) && e)) || h

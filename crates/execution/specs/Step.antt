@@ -1,5 +1,5 @@
 -- One step (document 01, "One step"), in its order.
-use Prim.Native.Nat.{ℕ, _+_}
+use Prim.Native.Nat.{ℕ, _+_, _<_}
 use mathlib.Core.Bool.{Bool, true, false, _&&_, cond}
 use lib.Dec.{eqb}
 use Rattle.arithmetic.specs.declared.record.Lh5801.{Lh5801}
@@ -120,3 +120,8 @@ heldOf m enabled =
 abbrev pub timed : Outcome → Outcome
 timed (Completed m) = Completed (timerPartOf m)
 timed (Stopped s) = Stopped s
+
+-- and TM fits its nine bits before it
+abbrev pub TimerFits : Outcome → Type 0
+TimerFits (Completed m) = m .tm < 512
+TimerFits (Stopped s) = Unit

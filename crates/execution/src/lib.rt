@@ -1,11 +1,12 @@
 // Decoding and execution of one instruction, and one step.
 ghost use mathlib.Core.Path.{_≡_};
 ghost use mathlib.Core.Bool.{false, cond};
+ghost use Prim.Native.Nat.{_<_};
 ghost use Rattle.arithmetic.specs.Record.{with-ir1, with-ir2};
 ghost use Rattle.pages.specs.Prog.{mapped};
 ghost use Rattle.pages.specs.Contract.{Changes, Reads};
 ghost use Rattle.execution.specs.Instructions.{executeOf};
-ghost use Rattle.execution.specs.Step.{outcomeOf, fetchOf, decodedBy, unlistedBy, instructionOf, reachedOf, poweredOf, stepOf, heldOf, timed};
+ghost use Rattle.execution.specs.Step.{outcomeOf, fetchOf, decodedBy, unlistedBy, instructionOf, reachedOf, poweredOf, stepOf, heldOf, timed, TimerFits};
 use crate::instructions::Decoded;
 use crate::instructions::Instruction;
 use arithmetic::record::Lh5801;
@@ -134,7 +135,8 @@ fn unlisted(fd: bool, byte: u8) -> Stop
 
 // One instruction and its states; or the stop of an unlisted byte.
 fn instruction(cpu: Lh5801, page0: &mut [u8], page1: &mut [u8], keyboard: u8) -> Outcome
-    ensures { λ r. ⌜ Changes (mapped outcomeOf (instructionOf cpu keyboard)) page0 page1 (timed r) ⌝ }
+    requires { ⌜ cpu .tm < 512 ⌝ }
+    ensures { λ r. ⌜ Changes (mapped outcomeOf (instructionOf cpu keyboard)) page0 page1 (timed r) × TimerFits r ⌝ }
 {
     let o = fetch(cpu.p, page0, page1);
     match decode(o.fd, o.byte) {
@@ -177,7 +179,8 @@ fn answered(cpu: Lh5801) -> Lh5801
 
 // A step in which no instruction is executed, before its timer part.
 fn held(cpu: Lh5801, page0: &mut [u8], page1: &mut [u8], enabled: bool) -> Outcome
-    ensures { λ r. ⌜ Changes (mapped outcomeOf (heldOf cpu enabled)) page0 page1 (timed r) ⌝ }
+    requires { ⌜ cpu .tm < 512 ⌝ }
+    ensures { λ r. ⌜ Changes (mapped outcomeOf (heldOf cpu enabled)) page0 page1 (timed r) × TimerFits r ⌝ }
 {
     if cpu.ir0 {
         return Outcome::Completed(cpu);
@@ -192,7 +195,8 @@ fn held(cpu: Lh5801, page0: &mut [u8], page1: &mut [u8], enabled: bool) -> Outco
 
 // A step with BF set, before its timer part: one test tells whether an instruction is due.
 fn powered(cpu: Lh5801, page0: &mut [u8], page1: &mut [u8], keyboard: u8) -> Outcome
-    ensures { λ r. ⌜ Changes (mapped outcomeOf (poweredOf cpu keyboard)) page0 page1 (timed r) ⌝ }
+    requires { ⌜ cpu .tm < 512 ⌝ }
+    ensures { λ r. ⌜ Changes (mapped outcomeOf (poweredOf cpu keyboard)) page0 page1 (timed r) × TimerFits r ⌝ }
 {
     let enabled = arithmetic::get_flag(cpu.t, arithmetic::IE);
     let interrupted = (cpu.ir1 | cpu.ir2) & enabled;
@@ -205,6 +209,7 @@ fn powered(cpu: Lh5801, page0: &mut [u8], page1: &mut [u8], keyboard: u8) -> Out
 
 // A completed step with BF set ends with the timer part.
 pub fn step_cpu(cpu: Lh5801, page0: &mut [u8], page1: &mut [u8], keyboard: u8) -> Outcome
+    requires { ⌜ cpu .tm < 512 ⌝ }
     ensures { λ r. ⌜ Changes (mapped outcomeOf (stepOf cpu keyboard)) page0 page1 r ⌝ }
 {
     if cpu.bf {

@@ -1,5 +1,6 @@
 // Pages, stack and timer of the LH5801.
 ghost use mathlib.Core.Path.{_≡_};
+ghost use Prim.Native.Nat.{_<_};
 ghost use lib.ListN.{getD, set};
 ghost use Rattle.pages.specs.Prog.{read, write};
 ghost use Rattle.pages.specs.Contract.{Changes, Reads};
@@ -166,6 +167,7 @@ pub fn add_state(cpu: Lh5801, n: u8) -> Lh5801
 
 // TM shifted once.
 pub fn timer_inc(cpu: Lh5801) -> Lh5801
+    requires { ⌜ cpu .tm < 512 ⌝ }
     ensures { λ r. ⌜ r ≡ timerIncOf cpu ⌝ }
 {
     let tm = cpu.tm;
@@ -182,6 +184,7 @@ fn passed(cpu: Lh5801) -> u64
 
 // One shift where 42 states or more have passed since the last.
 pub fn timer_part(cpu: Lh5801) -> Lh5801
+    requires { ⌜ cpu .tm < 512 ⌝ }
     ensures { λ r. ⌜ r ≡ timerPartOf cpu ⌝ }
 {
     if 42 <= passed(cpu) {

@@ -19,7 +19,7 @@ same-length-2 : tie.Need-same-length-2
 same-length-2 c = search needs
 
 returns : tie.Need-returns
-returns c = rw (powered-held (c .before .before .before .before .before .before .before .before .before .before .before .before .before .before .args .cpu) (c .before .before .before .before .before .before .before .before .before .before .before .before .before .before .args .keyboard) (c .before .before .before .before .before .before .before .before .before .before .before .get-flag .result) (c .before .before .before .before .before .before .before .before .before .before .before .get-flag .ensures) (c .before .before .before .before .before .before .before .if1 .taken)) (c .before .before .before .before .held .ensures)
+returns c = (rw (powered-held (c .before .before .before .before .before .before .before .before .before .before .before .before .before .before .args .cpu) (c .before .before .before .before .before .before .before .before .before .before .before .before .before .before .args .keyboard) (c .before .before .before .before .before .before .before .before .before .before .before .get-flag .result) (c .before .before .before .before .before .before .before .before .before .before .before .get-flag .ensures) (c .before .before .before .before .before .before .before .if1 .taken)) (c .before .before .before .before .held .ensures .0), c .before .before .before .before .held .ensures .1)
 
 same-length-3 : tie.Need-same-length-3
 same-length-3 c = search needs
@@ -28,7 +28,7 @@ same-length-4 : tie.Need-same-length-4
 same-length-4 c = search needs
 
 returns-2 : tie.Need-returns-2
-returns-2 c = rw (powered-free (c .before .before .before .before .before .before .before .before .before .before .before .before .before .before .args .cpu) (c .before .before .before .before .before .before .before .before .before .before .before .before .before .before .args .keyboard) (c .before .before .before .before .before .before .before .before .before .before .before .get-flag .result) (c .before .before .before .before .before .before .before .before .before .before .before .get-flag .ensures) (c .before .before .before .before .before .before .before .if1 .left)) (c .before .before .before .before .instruction .ensures)
+returns-2 c = (rw (powered-free (c .before .before .before .before .before .before .before .before .before .before .before .before .before .before .args .cpu) (c .before .before .before .before .before .before .before .before .before .before .before .before .before .before .args .keyboard) (c .before .before .before .before .before .before .before .before .before .before .before .get-flag .result) (c .before .before .before .before .before .before .before .before .before .before .before .get-flag .ensures) (c .before .before .before .before .before .before .before .if1 .left)) (c .before .before .before .before .instruction .ensures .0), c .before .before .before .before .instruction .ensures .1)
 
 pub powered-spec : {M : Type 1} → statement M
 powered-spec =

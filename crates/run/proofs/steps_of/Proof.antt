@@ -16,7 +16,7 @@ loop-holds : tie.Need-loop-holds Inv-loop μ-loop
 loop-holds c = record { long0 = refl; long1 = refl; going = at-start _ _ _ _ (c .before .before .pre .0) }
 
 step-cpu-requires : tie.Need-step-cpu-requires Inv-loop μ-loop
-step-cpu-requires c κs = search needs
+step-cpu-requires c κs = c .before .before .before .loop .inv .going .small
 
 enum-known-outcome : tie.Need-enum-known-outcome Inv-loop μ-loop
 enum-known-outcome c = search needs

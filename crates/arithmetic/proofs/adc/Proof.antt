@@ -3,18 +3,9 @@ use borrow.Author.Needs.{needs}
 use Rattle.arithmetic.proofs.adc.Statement.{statement}
 use Rattle.arithmetic.proofs.adc.Tie as tie
 
-get-flag-requires : tie.Need-get-flag-requires
-get-flag-requires c κs = search needs
-
-add-generic-requires : tie.Need-add-generic-requires
-add-generic-requires c κs = search needs
-
-with-sum-requires : tie.Need-with-sum-requires
-with-sum-requires c κs = search needs
-
 returns : tie.Need-returns
 unfolding adcOf
 returns c = cc
 
 pub adc-spec : {M : Type 1} → statement M
-adc-spec = tie.close (tie.spec get-flag-requires add-generic-requires with-sum-requires returns)
+adc-spec = tie.close (tie.spec (λ c κs. search needs) (λ c κs. search needs) (λ c κs. search needs) returns)

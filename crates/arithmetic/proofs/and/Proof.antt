@@ -3,12 +3,9 @@ use borrow.Author.Needs.{needs}
 use Rattle.arithmetic.proofs.and.Statement.{statement}
 use Rattle.arithmetic.proofs.and.Tie as tie
 
-lda-requires : tie.Need-lda-requires
-lda-requires c κs = search needs
-
 returns : tie.Need-returns
 unfolding andOf
 returns c = cc
 
 pub and-spec : {M : Type 1} → statement M
-and-spec = tie.close (tie.spec lda-requires returns)
+and-spec = tie.close (tie.spec (λ c κs. search needs) returns)

@@ -3,12 +3,9 @@ use borrow.Author.Needs.{needs}
 use Rattle.arithmetic.proofs.eor.Statement.{statement}
 use Rattle.arithmetic.proofs.eor.Tie as tie
 
-lda-requires : tie.Need-lda-requires
-lda-requires c κs = search needs
-
 returns : tie.Need-returns
 unfolding eorOf
 returns c = cc
 
 pub eor-spec : {M : Type 1} → statement M
-eor-spec = tie.close (tie.spec lda-requires returns)
+eor-spec = tie.close (tie.spec (λ c κs. search needs) returns)

@@ -3,12 +3,9 @@ use borrow.Author.Needs.{needs}
 use Rattle.arithmetic.proofs.ora.Statement.{statement}
 use Rattle.arithmetic.proofs.ora.Tie as tie
 
-lda-requires : tie.Need-lda-requires
-lda-requires c κs = search needs
-
 returns : tie.Need-returns
 unfolding oraOf
 returns c = cc
 
 pub ora-spec : {M : Type 1} → statement M
-ora-spec = tie.close (tie.spec lda-requires returns)
+ora-spec = tie.close (tie.spec (λ c κs. search needs) returns)

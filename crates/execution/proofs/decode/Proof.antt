@@ -2,12 +2,6 @@ use borrow.Author.Needs.{needs}
 use Rattle.execution.proofs.decode.Statement.{statement}
 use Rattle.execution.proofs.decode.Tie as tie
 
-decode-fd-requires : tie.Need-decode-fd-requires
-decode-fd-requires c κs = search needs
-
-decode-requires : tie.Need-decode-requires
-decode-requires c κs = search needs
-
 returns : tie.Need-returns
 returns c = rw (c .before .if1 .taken) (c .decode-fd .ensures)
 
@@ -15,4 +9,4 @@ returns-2 : tie.Need-returns-2
 returns-2 c = rw (c .before .if1 .left) (c .decode .ensures)
 
 pub decode-spec : {M : Type 1} → statement M
-decode-spec = tie.close (tie.spec decode-fd-requires decode-requires returns returns-2)
+decode-spec = tie.close (tie.spec (λ c κs. search needs) (λ c κs. search needs) returns returns-2)

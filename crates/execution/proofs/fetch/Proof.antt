@@ -6,12 +6,6 @@ use borrow.Author.Needs.{needs}
 use Rattle.execution.proofs.fetch.Statement.{statement}
 use Rattle.execution.proofs.fetch.Tie as tie
 
-cpu-readop-requires : tie.Need-cpu-readop-requires
-cpu-readop-requires c κs = search needs
-
-cpu-readop-requires-2 : tie.Need-cpu-readop-requires-2
-cpu-readop-requires-2 c κs = search needs
-
 returns : tie.Need-returns
 unfolding fetchOf
 returns c = does-then _ (c .before .before .before .cpu-readop .ensures) (rw (eq-eqb _ 0xFD (c .before .if1 .taken)) (does-then _ (c .cpu-readop2 .ensures) (does-done refl)))
@@ -21,4 +15,4 @@ unfolding fetchOf
 returns-2 c = does-then _ (c .before .before .cpu-readop .ensures) (rw (ne-eqb _ 0xFD (c .if1 .left)) (does-done refl))
 
 pub fetch-spec : {M : Type 1} → statement M
-fetch-spec = tie.close (tie.spec cpu-readop-requires cpu-readop-requires-2 returns returns-2)
+fetch-spec = tie.close (tie.spec (λ c κs. search needs) (λ c κs. search needs) returns returns-2)

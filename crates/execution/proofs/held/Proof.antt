@@ -7,21 +7,6 @@ use Rattle.execution.proofs.held.Tie as tie
 returns : tie.Need-returns
 returns c = (held-frozen (c .before .before .before .args .cpu) (c .before .before .before .args .enabled) (c .if1 .taken), c .before .before .before .pre)
 
-vector-of-requires : tie.Need-vector-of-requires
-vector-of-requires c κs = search needs
-
-answered-requires : tie.Need-answered-requires
-answered-requires c κs = search needs
-
-accept-requires : tie.Need-accept-requires
-accept-requires c κs = search needs
-
-same-length : tie.Need-same-length
-same-length c = search needs
-
-same-length-2 : tie.Need-same-length-2
-same-length-2 c = search needs
-
 returns-2 : tie.Need-returns-2
 returns-2 c = (
   held-entered (c .before .before .before .before .before .before .before .before .before .before .before .before .before .before .args .cpu) (c .before .before .before .before .before .before .before .before .before .before .before .before .before .before .args .enabled) (c .before .before .before .before .before .before .before .before .before .before .before .if1 .left) (c .before .before .before .before .before .before .before .before .before .if2 .taken) (c .before .before .before .before .before .before .before .answered .ensures) (c .before .before .before .before .before .before .before .before .vector-of .ensures) (c .before .before .before .before .accept .ensures),
@@ -34,12 +19,5 @@ returns-3 c = (held-halted (c .before .before .before .before .before .args .cpu
 pub held-spec : {M : Type 1} → statement M
 held-spec =
     tie.close
-    (tie.spec
-    returns
-    vector-of-requires
-    answered-requires
-    accept-requires
-    same-length
-    same-length-2
-    returns-2
+    (tie.spec returns (λ c κs. search needs) (λ c κs. search needs) (λ c κs. search needs) (λ c. search needs) (λ c. search needs) returns-2
     returns-3)

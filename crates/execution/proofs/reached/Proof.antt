@@ -5,12 +5,6 @@ use borrow.Author.Needs.{needs}
 use Rattle.execution.proofs.reached.Statement.{statement}
 use Rattle.execution.proofs.reached.Tie as tie
 
-with-ir1-requires : tie.Need-with-ir1-requires
-with-ir1-requires c κs = search needs
-
-with-is-timer-reached-requires : tie.Need-with-is-timer-reached-requires
-with-is-timer-reached-requires c κs = search needs
-
 returns : tie.Need-returns
 returns c = c .with-is-timer-reached .ensures ∙ rw (c .before .with-ir1 .ensures) (sym (reached-moves (c .before .before .before .args .cpu) (c .before .before .if1 .taken)))
 
@@ -19,4 +13,4 @@ returns-2 c = sym (reached-stays (c .before .args .cpu) (c .if1 .left))
 
 pub reached-spec : {M : Type 1} → statement M
 reached-spec =
-    tie.close (tie.spec with-ir1-requires with-is-timer-reached-requires returns returns-2)
+    tie.close (tie.spec (λ c κs. search needs) (λ c κs. search needs) returns returns-2)

@@ -4,15 +4,9 @@ use borrow.Author.Needs.{needs}
 use Rattle.pages.proofs.cpu_readop.Statement.{statement}
 use Rattle.pages.proofs.cpu_readop.Tie as tie
 
-read-byte-requires : tie.Need-read-byte-requires
-read-byte-requires c κs = search needs
-
-wrapping-add-u16-requires : tie.Need-wrapping-add-u16-requires
-wrapping-add-u16-requires c κs = search needs
-
 returns : tie.Need-returns
 unfolding readopOf
 returns c = does-then _ (c .before .read-byte .ensures) (does-done (cc))
 
 pub cpu-readop-spec : {M : Type 1} → statement M
-cpu-readop-spec = tie.close (tie.spec read-byte-requires wrapping-add-u16-requires returns)
+cpu-readop-spec = tie.close (tie.spec (λ c κs. search needs) (λ c κs. search needs) returns)

@@ -3,15 +3,6 @@ use borrow.Author.Needs.{needs}
 use Rattle.pages.proofs.read_byte.Statement.{statement}
 use Rattle.pages.proofs.read_byte.Tie as tie
 
-byte-at-requires : tie.Need-byte-at-requires
-byte-at-requires c κs = search needs
-
-cast-byte-at : tie.Need-cast-byte-at
-cast-byte-at c = search needs
-
-byte-at-requires-2 : tie.Need-byte-at-requires-2
-byte-at-requires-2 c κs = search needs
-
 returns : tie.Need-returns
 returns c = does-read0 (search needs) (cc)
 
@@ -20,4 +11,4 @@ returns-2 c = does-read1 (search needs) (cc)
 
 pub read-byte-spec : {M : Type 1} → statement M
 read-byte-spec =
-    tie.close (tie.spec byte-at-requires cast-byte-at byte-at-requires-2 returns returns-2)
+    tie.close (tie.spec (λ c κs. search needs) (λ c. search needs) (λ c κs. search needs) returns returns-2)

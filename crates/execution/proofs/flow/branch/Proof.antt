@@ -5,18 +5,6 @@ use borrow.Author.Needs.{needs}
 use Rattle.execution.proofs.flow.branch.Statement.{statement}
 use Rattle.execution.proofs.flow.branch.Tie as tie
 
-cpu-readop-requires : tie.Need-cpu-readop-requires
-cpu-readop-requires c κs = search needs
-
-holds-requires : tie.Need-holds-requires
-holds-requires c κs = search needs
-
-branched-requires : tie.Need-branched-requires
-branched-requires c κs = search needs
-
-with-p-requires : tie.Need-with-p-requires
-with-p-requires c κs = search needs
-
 returns : tie.Need-returns
 unfolding branchOf
 returns c = does-then _ (c .before .before .before .cpu-readop .ensures) (does-done (rw (sym (c .before .before .holds .ensures) ∙ c .before .if1 .taken) (c .branched .ensures)))
@@ -28,10 +16,4 @@ returns-2 c = does-then _ (c .before .before .before .cpu-readop .ensures) (does
 pub branch-spec : {M : Type 1} → statement M
 branch-spec =
     tie.close
-    (tie.spec
-    cpu-readop-requires
-    holds-requires
-    branched-requires
-    with-p-requires
-    returns
-    returns-2)
+    (tie.spec (λ c κs. search needs) (λ c κs. search needs) (λ c κs. search needs) (λ c κs. search needs) returns returns-2)

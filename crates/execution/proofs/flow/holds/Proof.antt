@@ -4,57 +4,6 @@ use borrow.Author.Needs.{needs}
 use Rattle.execution.proofs.flow.holds.Statement.{statement}
 use Rattle.execution.proofs.flow.holds.Tie as tie
 
-enum-told : tie.Need-enum-told
-enum-told c = search needs
-
-get-flag-requires : tie.Need-get-flag-requires
-get-flag-requires c κs = search needs
-
-enum-told-2 : tie.Need-enum-told-2
-enum-told-2 c = search needs
-
-get-flag-requires-2 : tie.Need-get-flag-requires-2
-get-flag-requires-2 c κs = search needs
-
-enum-told-3 : tie.Need-enum-told-3
-enum-told-3 c = search needs
-
-get-flag-requires-3 : tie.Need-get-flag-requires-3
-get-flag-requires-3 c κs = search needs
-
-enum-told-4 : tie.Need-enum-told-4
-enum-told-4 c = search needs
-
-get-flag-requires-4 : tie.Need-get-flag-requires-4
-get-flag-requires-4 c κs = search needs
-
-enum-told-5 : tie.Need-enum-told-5
-enum-told-5 c = search needs
-
-get-flag-requires-5 : tie.Need-get-flag-requires-5
-get-flag-requires-5 c κs = search needs
-
-enum-told-6 : tie.Need-enum-told-6
-enum-told-6 c = search needs
-
-get-flag-requires-6 : tie.Need-get-flag-requires-6
-get-flag-requires-6 c κs = search needs
-
-enum-told-7 : tie.Need-enum-told-7
-enum-told-7 c = search needs
-
-get-flag-requires-7 : tie.Need-get-flag-requires-7
-get-flag-requires-7 c κs = search needs
-
-enum-told-8 : tie.Need-enum-told-8
-enum-told-8 c = search needs
-
-get-flag-requires-8 : tie.Need-get-flag-requires-8
-get-flag-requires-8 c κs = search needs
-
-enum-told-9 : tie.Need-enum-told-9
-enum-told-9 c = search needs
-
 returns : tie.Need-returns
 returns c = rw (c .before .enum-told .given .1) (ap not (c .get-flag .ensures))
 
@@ -79,36 +28,10 @@ returns-7 c = rw (c .before .enum-told7 .given .1) (ap not (c .get-flag7 .ensure
 returns-8 : tie.Need-returns-8
 returns-8 c = rw (c .before .enum-told8 .given .1) (c .get-flag8 .ensures)
 
-returns-9 : tie.Need-returns-9
-returns-9 c = search needs
-
 pub holds-spec : {M : Type 1} → statement M
 holds-spec =
     tie.close
-    (tie.spec
-    enum-told
-    get-flag-requires
-    enum-told-2
-    get-flag-requires-2
-    enum-told-3
-    get-flag-requires-3
-    enum-told-4
-    get-flag-requires-4
-    enum-told-5
-    get-flag-requires-5
-    enum-told-6
-    get-flag-requires-6
-    enum-told-7
-    get-flag-requires-7
-    enum-told-8
-    get-flag-requires-8
-    enum-told-9
-    returns
-    returns-2
-    returns-3
-    returns-4
-    returns-5
-    returns-6
-    returns-7
-    returns-8
-    returns-9)
+    (tie.spec (λ c. search needs) (λ c κs. search needs) (λ c. search needs) (λ c κs. search needs) (λ c. search needs)
+    (λ c κs. search needs) (λ c. search needs) (λ c κs. search needs) (λ c. search needs) (λ c κs. search needs) (λ c. search needs)
+    (λ c κs. search needs) (λ c. search needs) (λ c κs. search needs) (λ c. search needs) (λ c κs. search needs) (λ c. search needs) returns
+    returns-2 returns-3 returns-4 returns-5 returns-6 returns-7 returns-8 (λ c. search needs))

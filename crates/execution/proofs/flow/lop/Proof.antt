@@ -5,21 +5,6 @@ use borrow.Author.Needs.{needs}
 use Rattle.execution.proofs.flow.lop.Statement.{statement}
 use Rattle.execution.proofs.flow.lop.Tie as tie
 
-cpu-readop-requires : tie.Need-cpu-readop-requires
-cpu-readop-requires c κs = search needs
-
-lop-requires : tie.Need-lop-requires
-lop-requires c κs = search needs
-
-with-u-requires : tie.Need-with-u-requires
-with-u-requires c κs = search needs
-
-branched-requires : tie.Need-branched-requires
-branched-requires c κs = search needs
-
-with-p-requires : tie.Need-with-p-requires
-with-p-requires c κs = search needs
-
 returns : tie.Need-returns
 unfolding lopOf
 returns c = does-then _ (c .before .before .before .before .cpu-readop .ensures) (does-done (loop-again (c .before .before .before .before .before .before .before .args .cpu) (c .before .before .before .before .cpu-readop .result .p) (c .before .before .before .before .cpu-readop .result .value) (c .before .before .before .lop .ensures) (c .before .if1 .taken) (c .before .before .with-u .ensures) (c .branched .ensures)))
@@ -31,11 +16,5 @@ returns-2 c = does-then _ (c .before .before .before .before .cpu-readop .ensure
 pub lop-spec : {M : Type 1} → statement M
 lop-spec =
     tie.close
-    (tie.spec
-    cpu-readop-requires
-    lop-requires
-    with-u-requires
-    branched-requires
-    with-p-requires
-    returns
+    (tie.spec (λ c κs. search needs) (λ c κs. search needs) (λ c κs. search needs) (λ c κs. search needs) (λ c κs. search needs) returns
     returns-2)

@@ -6,12 +6,9 @@ use borrow.Author.Needs.{needs}
 use Rattle.execution.proofs.opcodes.decode.Statement.{statement}
 use Rattle.execution.proofs.opcodes.decode.Tie as tie
 
-from-0-requires : tie.Need-from-0-requires
-from-0-requires c κs = search needs
-
 returns : tie.Need-returns
 unfolding decoded
 returns c = c .from-0 .ensures ∙ table rows tt (omega arith) (c .before .args .byte) (omega arith)
 
 pub decode-spec : {M : Type 1} → statement M
-decode-spec = tie.close (tie.spec from-0-requires returns)
+decode-spec = tie.close (tie.spec (λ c κs. search needs) returns)

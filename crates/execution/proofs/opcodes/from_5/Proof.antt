@@ -7,21 +7,6 @@ use borrow.Author.Needs.{needs}
 use Rattle.execution.proofs.opcodes.from_5.Statement.{statement}
 use Rattle.execution.proofs.opcodes.from_5.Tie as tie
 
-wrapping-sub-u8-requires : tie.Need-wrapping-sub-u8-requires
-wrapping-sub-u8-requires c κs = search needs
-
-row-4-requires : tie.Need-row-4-requires
-row-4-requires c κs = search needs
-
-enum-known-i : tie.Need-enum-known-i
-enum-known-i c = search needs
-
-enum-told : tie.Need-enum-told
-enum-told c = search needs
-
-from-6-requires : tie.Need-from-6-requires
-from-6-requires c κs = search needs
-
 returns : tie.Need-returns
 returns c = listed (row4 Y) (drop 6 rows) 5 (c .before .before .before .before .before .args .byte) (c .before .before .before .before .wrapping-sub-u8 .result) (c .before .before .before .row-4 .ensures) (omega arith) (c .before .i .given .1)
 
@@ -31,11 +16,4 @@ returns-2 c = next (row4 Y) (drop 6 rows) 5 (c .before .before .before .before .
 pub from-5-spec : {M : Type 1} → statement M
 from-5-spec =
     tie.close
-    (tie.spec
-    wrapping-sub-u8-requires
-    row-4-requires
-    enum-known-i
-    enum-told
-    from-6-requires
-    returns
-    returns-2)
+    (tie.spec (λ c κs. search needs) (λ c κs. search needs) (λ c. search needs) (λ c. search needs) (λ c κs. search needs) returns returns-2)

@@ -6,21 +6,6 @@ use borrow.Author.Needs.{needs}
 use Rattle.execution.proofs.opcodes.from_7.Statement.{statement}
 use Rattle.execution.proofs.opcodes.from_7.Tie as tie
 
-wrapping-sub-u8-requires : tie.Need-wrapping-sub-u8-requires
-wrapping-sub-u8-requires c κs = search needs
-
-row-7-requires : tie.Need-row-7-requires
-row-7-requires c κs = search needs
-
-enum-known-i : tie.Need-enum-known-i
-enum-known-i c = search needs
-
-enum-told : tie.Need-enum-told
-enum-told c = search needs
-
-from-8-requires : tie.Need-from-8-requires
-from-8-requires c κs = search needs
-
 returns : tie.Need-returns
 returns c = listed row7 (drop 8 rows) 7 (c .before .before .before .before .before .args .byte) (c .before .before .before .before .wrapping-sub-u8 .result) (c .before .before .before .row-7 .ensures) (omega arith) (c .before .i .given .1)
 
@@ -30,11 +15,4 @@ returns-2 c = next row7 (drop 8 rows) 7 (c .before .before .before .before .befo
 pub from-7-spec : {M : Type 1} → statement M
 from-7-spec =
     tie.close
-    (tie.spec
-    wrapping-sub-u8-requires
-    row-7-requires
-    enum-known-i
-    enum-told
-    from-8-requires
-    returns
-    returns-2)
+    (tie.spec (λ c κs. search needs) (λ c κs. search needs) (λ c. search needs) (λ c. search needs) (λ c κs. search needs) returns returns-2)

@@ -9,17 +9,8 @@ use borrow.Author.Needs.{needs}
 use Rattle.execution.proofs.opcodes.row_8.Statement.{statement}
 use Rattle.execution.proofs.opcodes.row_8.Tie as tie
 
-row-branches-requires : tie.Need-row-branches-requires
-row-branches-requires c κs = search needs
-
-returns : tie.Need-returns
-returns c = rw (c .match .keys1)
-
-returns-2 : tie.Need-returns-2
-returns-2 c = rw (c .match .keys2)
-
 returns-3 : tie.Need-returns-3
 returns-3 c = c .row-branches .ensures ∙ other Unlisted row8 (branches true X Unlisted Unlisted) (10 ∷ 8 ∷ []) (c .before .before .args .col) refl (c .before .match .rest)
 
 pub row-8-spec : {M : Type 1} → statement M
-row-8-spec = tie.close (tie.spec row-branches-requires returns returns-2 returns-3)
+row-8-spec = tie.close (tie.spec (λ c κs. search needs) (λ c. rw (c .match .keys1)) (λ c. rw (c .match .keys2)) returns-3)

@@ -7,51 +7,12 @@ use borrow.Author.Needs.{needs}
 use Rattle.execution.proofs.opcodes.row_branches.Statement.{statement}
 use Rattle.execution.proofs.opcodes.row_branches.Tie as tie
 
-row-8-shared-requires : tie.Need-row-8-shared-requires
-row-8-shared-requires c κs = search needs
-
-returns : tie.Need-returns
-returns c = rw (c .match .keys1)
-
-returns-2 : tie.Need-returns-2
-returns-2 c = rw (c .match .keys2)
-
-returns-3 : tie.Need-returns-3
-returns-3 c = rw (c .match .keys3)
-
-returns-4 : tie.Need-returns-4
-returns-4 c = rw (c .match .keys4)
-
-returns-5 : tie.Need-returns-5
-returns-5 c = rw (c .match .keys5)
-
-returns-6 : tie.Need-returns-6
-returns-6 c = rw (c .match .keys6)
-
-returns-7 : tie.Need-returns-7
-returns-7 c = rw (c .match .keys7)
-
-returns-8 : tie.Need-returns-8
-returns-8 c = rw (c .match .keys8)
-
-returns-9 : tie.Need-returns-9
-returns-9 c = rw (c .match .keys9)
-
 returns-10 : tie.Need-returns-10
 returns-10 c = c .row-8-shared .ensures ∙ other Unlisted (branches (c .before .before .args .forward) (c .before .before .args .r) Unlisted Unlisted) (shared8 (c .before .before .args .r)) (15 ∷ 14 ∷ 13 ∷ 11 ∷ 9 ∷ 7 ∷ 5 ∷ 3 ∷ 1 ∷ []) (c .before .before .args .col) refl (c .before .match .rest)
 
 pub row-branches-spec : {M : Type 1} → statement M
 row-branches-spec =
     tie.close
-    (tie.spec
-    row-8-shared-requires
-    returns
-    returns-2
-    returns-3
-    returns-4
-    returns-5
-    returns-6
-    returns-7
-    returns-8
-    returns-9
-    returns-10)
+    (tie.spec (λ c κs. search needs) (λ c. rw (c .match .keys1)) (λ c. rw (c .match .keys2)) (λ c. rw (c .match .keys3))
+    (λ c. rw (c .match .keys4)) (λ c. rw (c .match .keys5)) (λ c. rw (c .match .keys6)) (λ c. rw (c .match .keys7))
+    (λ c. rw (c .match .keys8)) (λ c. rw (c .match .keys9)) returns-10)

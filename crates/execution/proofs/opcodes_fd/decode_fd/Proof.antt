@@ -6,12 +6,9 @@ use borrow.Author.Needs.{needs}
 use Rattle.execution.proofs.opcodes_fd.decode_fd.Statement.{statement}
 use Rattle.execution.proofs.opcodes_fd.decode_fd.Tie as tie
 
-from-0-requires : tie.Need-from-0-requires
-from-0-requires c κs = search needs
-
 returns : tie.Need-returns
 unfolding decodedFd
 returns c = c .from-0 .ensures ∙ table rowsFd tt (omega arith) (c .before .args .byte) (omega arith)
 
 pub decode-fd-spec : {M : Type 1} → statement M
-decode-fd-spec = tie.close (tie.spec from-0-requires returns)
+decode-fd-spec = tie.close (tie.spec (λ c κs. search needs) returns)

@@ -7,18 +7,6 @@ use borrow.Author.Needs.{needs}
 use Rattle.execution.proofs.opcodes_fd.from_0.Statement.{statement}
 use Rattle.execution.proofs.opcodes_fd.from_0.Tie as tie
 
-row-0-requires : tie.Need-row-0-requires
-row-0-requires c κs = search needs
-
-enum-known-i : tie.Need-enum-known-i
-enum-known-i c = search needs
-
-enum-told : tie.Need-enum-told
-enum-told c = search needs
-
-from-1-requires : tie.Need-from-1-requires
-from-1-requires c κs = search needs
-
 returns : tie.Need-returns
 returns c = listed (row0 X) (drop 1 rowsFd) 0 (c .before .before .before .before .args .byte) (c .before .before .before .before .args .byte) (c .before .before .before .row-0 .ensures) (omega arith) (c .before .i .given .1)
 
@@ -27,4 +15,4 @@ returns-2 c = next (row0 X) (drop 1 rowsFd) 0 (c .before .before .before .before
 
 pub from-0-spec : {M : Type 1} → statement M
 from-0-spec =
-    tie.close (tie.spec row-0-requires enum-known-i enum-told from-1-requires returns returns-2)
+    tie.close (tie.spec (λ c κs. search needs) (λ c. search needs) (λ c. search needs) (λ c κs. search needs) returns returns-2)

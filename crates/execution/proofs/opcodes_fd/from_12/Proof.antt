@@ -6,21 +6,6 @@ use borrow.Author.Needs.{needs}
 use Rattle.execution.proofs.opcodes_fd.from_12.Statement.{statement}
 use Rattle.execution.proofs.opcodes_fd.from_12.Tie as tie
 
-wrapping-sub-u8-requires : tie.Need-wrapping-sub-u8-requires
-wrapping-sub-u8-requires c κs = search needs
-
-row-c-requires : tie.Need-row-c-requires
-row-c-requires c κs = search needs
-
-enum-known-i : tie.Need-enum-known-i
-enum-known-i c = search needs
-
-enum-told : tie.Need-enum-told
-enum-told c = search needs
-
-from-13-requires : tie.Need-from-13-requires
-from-13-requires c κs = search needs
-
 returns : tie.Need-returns
 returns c = listed rowC (drop 13 rowsFd) 12 (c .before .before .before .before .before .args .byte) (c .before .before .before .before .wrapping-sub-u8 .result) (c .before .before .before .row-c .ensures) (omega arith) (c .before .i .given .1)
 
@@ -30,11 +15,4 @@ returns-2 c = next rowC (drop 13 rowsFd) 12 (c .before .before .before .before .
 pub from-12-spec : {M : Type 1} → statement M
 from-12-spec =
     tie.close
-    (tie.spec
-    wrapping-sub-u8-requires
-    row-c-requires
-    enum-known-i
-    enum-told
-    from-13-requires
-    returns
-    returns-2)
+    (tie.spec (λ c κs. search needs) (λ c κs. search needs) (λ c. search needs) (λ c. search needs) (λ c κs. search needs) returns returns-2)

@@ -9,21 +9,6 @@ use borrow.Author.Needs.{needs}
 use Rattle.execution.proofs.opcodes_fd.from_6.Statement.{statement}
 use Rattle.execution.proofs.opcodes_fd.from_6.Tie as tie
 
-wrapping-sub-u8-requires : tie.Need-wrapping-sub-u8-requires
-wrapping-sub-u8-requires c κs = search needs
-
-row-4-shared-requires : tie.Need-row-4-shared-requires
-row-4-shared-requires c κs = search needs
-
-enum-known-i : tie.Need-enum-known-i
-enum-known-i c = search needs
-
-enum-told : tie.Need-enum-told
-enum-told c = search needs
-
-from-8-requires : tie.Need-from-8-requires
-from-8-requires c κs = search needs
-
 returns : tie.Need-returns
 returns c = listed (row4 U Unlisted Unlisted Unlisted) (drop 7 rowsFd) 6 (c .before .before .before .before .before .args .byte) (c .before .before .before .before .wrapping-sub-u8 .result) (c .before .before .before .row-4-shared .ensures) (omega arith) (c .before .i .given .1)
 
@@ -33,11 +18,4 @@ returns-2 c = next (row4 U Unlisted Unlisted Unlisted) (drop 7 rowsFd) 6 (c .bef
 pub from-6-spec : {M : Type 1} → statement M
 from-6-spec =
     tie.close
-    (tie.spec
-    wrapping-sub-u8-requires
-    row-4-shared-requires
-    enum-known-i
-    enum-told
-    from-8-requires
-    returns
-    returns-2)
+    (tie.spec (λ c κs. search needs) (λ c κs. search needs) (λ c. search needs) (λ c. search needs) (λ c κs. search needs) returns returns-2)

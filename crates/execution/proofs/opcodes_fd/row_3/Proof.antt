@@ -6,11 +6,8 @@ use Rattle.arithmetic.proofs.Rows.{default}
 use Rattle.execution.proofs.opcodes_fd.row_3.Statement.{statement}
 use Rattle.execution.proofs.opcodes_fd.row_3.Tie as tie
 
-returns : tie.Need-returns
-returns c = rw (c .match .keys1)
-
 returns-2 : tie.Need-returns-2
 returns-2 c = default Unlisted row3 (10 ∷ []) 16 (c .before .args .col) refl (c .match .rest)
 
 pub row-3-spec : {M : Type 1} → statement M
-row-3-spec = tie.close (tie.spec returns returns-2)
+row-3-spec = tie.close (tie.spec (λ c. rw (c .match .keys1)) returns-2)

@@ -8,17 +8,8 @@ use borrow.Author.Needs.{needs}
 use Rattle.execution.proofs.opcodes_fd.row_5.Statement.{statement}
 use Rattle.execution.proofs.opcodes_fd.row_5.Tie as tie
 
-row-4-shared-requires : tie.Need-row-4-shared-requires
-row-4-shared-requires c κs = search needs
-
-returns : tie.Need-returns
-returns c = rw (c .match .keys1)
-
-returns-2 : tie.Need-returns-2
-returns-2 c = rw (c .match .keys2)
-
 returns-3 : tie.Need-returns-3
 returns-3 c = c .row-4-shared .ensures ∙ other Unlisted row4Y (row4 Y Unlisted Unlisted Unlisted) (14 ∷ 8 ∷ []) (c .before .before .args .col) refl (c .before .match .rest)
 
 pub row-5-spec : {M : Type 1} → statement M
-row-5-spec = tie.close (tie.spec row-4-shared-requires returns returns-2 returns-3)
+row-5-spec = tie.close (tie.spec (λ c κs. search needs) (λ c. rw (c .match .keys1)) (λ c. rw (c .match .keys2)) returns-3)

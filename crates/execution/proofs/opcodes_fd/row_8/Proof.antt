@@ -8,20 +8,8 @@ use borrow.Author.Needs.{needs}
 use Rattle.execution.proofs.opcodes_fd.row_8.Statement.{statement}
 use Rattle.execution.proofs.opcodes_fd.row_8.Tie as tie
 
-row-8-shared-requires : tie.Need-row-8-shared-requires
-row-8-shared-requires c κs = search needs
-
-returns : tie.Need-returns
-returns c = rw (c .match .keys1)
-
-returns-2 : tie.Need-returns-2
-returns-2 c = rw (c .match .keys2)
-
-returns-3 : tie.Need-returns-3
-returns-3 c = rw (c .match .keys3)
-
 returns-4 : tie.Need-returns-4
 returns-4 c = c .row-8-shared .ensures ∙ other Unlisted row8X (row8 X Unlisted Unlisted Unlisted) (14 ∷ 10 ∷ 1 ∷ []) (c .before .before .args .col) refl (c .before .match .rest)
 
 pub row-8-spec : {M : Type 1} → statement M
-row-8-spec = tie.close (tie.spec row-8-shared-requires returns returns-2 returns-3 returns-4)
+row-8-spec = tie.close (tie.spec (λ c κs. search needs) (λ c. rw (c .match .keys1)) (λ c. rw (c .match .keys2)) (λ c. rw (c .match .keys3)) returns-4)

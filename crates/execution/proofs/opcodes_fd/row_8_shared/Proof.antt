@@ -6,14 +6,8 @@ use Rattle.arithmetic.proofs.Rows.{default}
 use Rattle.execution.proofs.opcodes_fd.row_8_shared.Statement.{statement}
 use Rattle.execution.proofs.opcodes_fd.row_8_shared.Tie as tie
 
-returns : tie.Need-returns
-returns c = rw (c .match .keys1)
-
-returns-2 : tie.Need-returns-2
-returns-2 c = rw (c .match .keys2)
-
 returns-3 : tie.Need-returns-3
 returns-3 c = default Unlisted (row8 (c .before .args .r) Unlisted Unlisted Unlisted) (12 ∷ 8 ∷ []) 16 (c .before .args .col) refl (c .match .rest)
 
 pub row-8-shared-spec : {M : Type 1} → statement M
-row-8-shared-spec = tie.close (tie.spec returns returns-2 returns-3)
+row-8-shared-spec = tie.close (tie.spec (λ c. rw (c .match .keys1)) (λ c. rw (c .match .keys2)) returns-3)

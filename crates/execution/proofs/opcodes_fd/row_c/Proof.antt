@@ -6,27 +6,9 @@ use Rattle.arithmetic.proofs.Rows.{default}
 use Rattle.execution.proofs.opcodes_fd.row_c.Statement.{statement}
 use Rattle.execution.proofs.opcodes_fd.row_c.Tie as tie
 
-returns : tie.Need-returns
-returns c = rw (c .match .keys1)
-
-returns-2 : tie.Need-returns-2
-returns-2 c = rw (c .match .keys2)
-
-returns-3 : tie.Need-returns-3
-returns-3 c = rw (c .match .keys3)
-
-returns-4 : tie.Need-returns-4
-returns-4 c = rw (c .match .keys4)
-
-returns-5 : tie.Need-returns-5
-returns-5 c = rw (c .match .keys5)
-
-returns-6 : tie.Need-returns-6
-returns-6 c = rw (c .match .keys6)
-
 returns-7 : tie.Need-returns-7
 returns-7 c = default Unlisted rowC (14 ∷ 12 ∷ 10 ∷ 8 ∷ 1 ∷ 0 ∷ []) 16 (c .before .args .col) refl (c .match .rest)
 
 pub row-c-spec : {M : Type 1} → statement M
 row-c-spec =
-    tie.close (tie.spec returns returns-2 returns-3 returns-4 returns-5 returns-6 returns-7)
+    tie.close (tie.spec (λ c. rw (c .match .keys1)) (λ c. rw (c .match .keys2)) (λ c. rw (c .match .keys3)) (λ c. rw (c .match .keys4)) (λ c. rw (c .match .keys5)) (λ c. rw (c .match .keys6)) returns-7)

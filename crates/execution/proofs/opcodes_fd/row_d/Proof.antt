@@ -6,20 +6,8 @@ use Rattle.arithmetic.proofs.Rows.{default}
 use Rattle.execution.proofs.opcodes_fd.row_d.Statement.{statement}
 use Rattle.execution.proofs.opcodes_fd.row_d.Tie as tie
 
-returns : tie.Need-returns
-returns c = rw (c .match .keys1)
-
-returns-2 : tie.Need-returns-2
-returns-2 c = rw (c .match .keys2)
-
-returns-3 : tie.Need-returns-3
-returns-3 c = rw (c .match .keys3)
-
-returns-4 : tie.Need-returns-4
-returns-4 c = rw (c .match .keys4)
-
 returns-5 : tie.Need-returns-5
 returns-5 c = default Unlisted rowD (14 ∷ 10 ∷ 7 ∷ 3 ∷ []) 16 (c .before .args .col) refl (c .match .rest)
 
 pub row-d-spec : {M : Type 1} → statement M
-row-d-spec = tie.close (tie.spec returns returns-2 returns-3 returns-4 returns-5)
+row-d-spec = tie.close (tie.spec (λ c. rw (c .match .keys1)) (λ c. rw (c .match .keys2)) (λ c. rw (c .match .keys3)) (λ c. rw (c .match .keys4)) returns-5)

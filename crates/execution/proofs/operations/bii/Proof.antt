@@ -5,24 +5,6 @@ use borrow.Author.Needs.{needs}
 use Rattle.execution.proofs.operations.bii.Statement.{statement}
 use Rattle.execution.proofs.operations.bii.Tie as tie
 
-word-at-requires : tie.Need-word-at-requires
-word-at-requires c κs = search needs
-
-locate-requires : tie.Need-locate-requires
-locate-requires c κs = search needs
-
-read-byte-requires : tie.Need-read-byte-requires
-read-byte-requires c κs = search needs
-
-cpu-readop-requires : tie.Need-cpu-readop-requires
-cpu-readop-requires c κs = search needs
-
-with-p-requires : tie.Need-with-p-requires
-with-p-requires c κs = search needs
-
-bit-requires : tie.Need-bit-requires
-bit-requires c κs = search needs
-
 returns : tie.Need-returns
 unfolding biiOf
 returns c = does-then _ (rw (locate-at (c .before .before .before .before .before .before .before .before .args .cpu) (c .before .before .before .before .before .before .before .before .args .place)) at (rw (c .before .before .before .before .before .word-at .ensures) at (c .before .before .before .before .locate .ensures))) (does-then _ (c .before .before .before .read-byte .ensures) (does-then _ (c .before .before .cpu-readop .ensures) (does-done (cc))))
@@ -30,11 +12,5 @@ returns c = does-then _ (rw (locate-at (c .before .before .before .before .befor
 pub bii-spec : {M : Type 1} → statement M
 bii-spec =
     tie.close
-    (tie.spec
-    word-at-requires
-    locate-requires
-    read-byte-requires
-    cpu-readop-requires
-    with-p-requires
-    bit-requires
-    returns)
+    (tie.spec (λ c κs. search needs) (λ c κs. search needs) (λ c κs. search needs) (λ c κs. search needs) (λ c κs. search needs)
+    (λ c κs. search needs) returns)

@@ -8,30 +8,6 @@ use borrow.Author.Needs.{needs}
 use Rattle.execution.proofs.operations.drr.Statement.{statement}
 use Rattle.execution.proofs.operations.drr.Tie as tie
 
-word-at-requires : tie.Need-word-at-requires
-word-at-requires c κs = search needs
-
-locate-requires : tie.Need-locate-requires
-locate-requires c κs = search needs
-
-read-byte-requires : tie.Need-read-byte-requires
-read-byte-requires c κs = search needs
-
-drr-requires : tie.Need-drr-requires
-drr-requires c κs = search needs
-
-write-byte-requires : tie.Need-write-byte-requires
-write-byte-requires c κs = search needs
-
-with-a-requires : tie.Need-with-a-requires
-with-a-requires c κs = search needs
-
-same-length : tie.Need-same-length
-same-length c = search needs
-
-same-length-2 : tie.Need-same-length-2
-same-length-2 c = search needs
-
 returns : tie.Need-returns
 unfolding drrOf
 returns c = does-then _ (rw (locate-at (c .before .before .before .before .before .before .before .before .before .before .before .before .before .before .before .before .before .before .args .cpu) (c .before .before .before .before .before .before .before .before .before .before .before .before .before .before .before .before .before .before .args .place)) at (rw (c .before .before .before .before .before .before .before .before .before .before .before .before .before .before .before .word-at .ensures) at (c .before .before .before .before .before .before .before .before .before .before .before .before .locate .ensures))) (does-then _ (c .before .before .before .before .before .before .before .before .before .read-byte .ensures) (does-then _ (rw (c .before .before .before .before .before .before .before .before .drr .ensures) at (c .before .before .before .before .before .write-byte .ensures)) (does-done (c .with-a .ensures ∙ ap (λ (v : Moved). with-a (c .before .before .before .before .before .before .before .before .before .before .before .before .before .before .before .before .before .before .args .cpu) (v .a)) (c .before .before .before .before .before .before .before .before .drr .ensures)))))
@@ -39,13 +15,5 @@ returns c = does-then _ (rw (locate-at (c .before .before .before .before .befor
 pub drr-spec : {M : Type 1} → statement M
 drr-spec =
     tie.close
-    (tie.spec
-    word-at-requires
-    locate-requires
-    read-byte-requires
-    drr-requires
-    write-byte-requires
-    with-a-requires
-    same-length
-    same-length-2
-    returns)
+    (tie.spec (λ c κs. search needs) (λ c κs. search needs) (λ c κs. search needs) (λ c κs. search needs) (λ c κs. search needs)
+    (λ c κs. search needs) (λ c. search needs) (λ c. search needs) returns)

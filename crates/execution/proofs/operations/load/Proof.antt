@@ -8,18 +8,6 @@ use borrow.Author.Needs.{needs}
 use Rattle.execution.proofs.operations.load.Statement.{statement}
 use Rattle.execution.proofs.operations.load.Tie as tie
 
-word-at-requires : tie.Need-word-at-requires
-word-at-requires c κs = search needs
-
-operand-requires : tie.Need-operand-requires
-operand-requires c κs = search needs
-
-with-p-requires : tie.Need-with-p-requires
-with-p-requires c κs = search needs
-
-set-half-requires : tie.Need-set-half-requires
-set-half-requires c κs = search needs
-
 returns : tie.Need-returns
 unfolding loadOf
 returns c = does-then _ (rw (operand-at (c .before .before .before .before .before .before .args .cpu) (c .before .before .before .before .before .before .args .place)) at (rw (c .before .before .before .word-at .ensures) at (c .before .before .operand .ensures))) (does-done (c .set-half .ensures ∙ ap (λ (m : Lh5801). withHalf m (c .before .before .before .before .before .before .args .h) (c .before .before .operand .result .value)) (c .before .with-p .ensures)))
@@ -27,4 +15,4 @@ returns c = does-then _ (rw (operand-at (c .before .before .before .before .befo
 pub load-spec : {M : Type 1} → statement M
 load-spec =
     tie.close
-    (tie.spec word-at-requires operand-requires with-p-requires set-half-requires returns)
+    (tie.spec (λ c κs. search needs) (λ c κs. search needs) (λ c κs. search needs) (λ c κs. search needs) returns)

@@ -5,24 +5,6 @@ use borrow.Author.Needs.{needs}
 use Rattle.execution.proofs.places.locate.Statement.{statement}
 use Rattle.execution.proofs.places.locate.Tie as tie
 
-enum-known-place : tie.Need-enum-known-place
-enum-known-place c = search needs
-
-paged-requires : tie.Need-paged-requires
-paged-requires c κs = search needs
-
-enum-known-place-2 : tie.Need-enum-known-place-2
-enum-known-place-2 c = search needs
-
-fixed-requires : tie.Need-fixed-requires
-fixed-requires c κs = search needs
-
-enum-known-place-3 : tie.Need-enum-known-place-3
-enum-known-place-3 c = search needs
-
-enum-told : tie.Need-enum-told
-enum-told c = search needs
-
 returns : tie.Need-returns
 unfolding locateAt
 returns c = rw (c .before .before .place .given .1) (does-done (cc))
@@ -42,14 +24,5 @@ returns-4 c = rw (c .enum-told .given .1) (does-done refl)
 pub locate-spec : {M : Type 1} → statement M
 locate-spec =
     tie.close
-    (tie.spec
-    enum-known-place
-    paged-requires
-    enum-known-place-2
-    fixed-requires
-    enum-known-place-3
-    enum-told
-    returns
-    returns-2
-    returns-3
-    returns-4)
+    (tie.spec (λ c. search needs) (λ c κs. search needs) (λ c. search needs) (λ c κs. search needs) (λ c. search needs) (λ c. search needs)
+    returns returns-2 returns-3 returns-4)

@@ -7,18 +7,9 @@ use borrow.Author.Needs.{needs}
 use Rattle.execution.proofs.transfers.pop_to.Statement.{statement}
 use Rattle.execution.proofs.transfers.pop_to.Tie as tie
 
-pop-word-requires : tie.Need-pop-word-requires
-pop-word-requires c κs = search needs
-
-with-s-requires : tie.Need-with-s-requires
-with-s-requires c κs = search needs
-
-set-word-requires : tie.Need-set-word-requires
-set-word-requires c κs = search needs
-
 returns : tie.Need-returns
 unfolding popToOf
 returns c = does-then _ (c .before .before .pop-word .ensures) (does-done (c .set-word .ensures ∙ ap (λ (m : Lh5801). withWord m (c .before .before .before .before .before .args .r) (c .before .before .pop-word .result .value)) (c .before .with-s .ensures)))
 
 pub pop-to-spec : {M : Type 1} → statement M
-pop-to-spec = tie.close (tie.spec pop-word-requires with-s-requires set-word-requires returns)
+pop-to-spec = tie.close (tie.spec (λ c κs. search needs) (λ c κs. search needs) (λ c κs. search needs) returns)

@@ -3,12 +3,9 @@ use borrow.Author.Needs.{needs}
 use Rattle.arithmetic.proofs.record.Lh5801.with_ir0.Statement.{statement}
 use Rattle.arithmetic.proofs.record.Lh5801.with_ir0.Tie as tie
 
-each-requires : tie.Need-each-requires
-each-requires c κs = search needs
-
 returns : tie.Need-returns
 unfolding with-ir0
 returns c = cc
 
 pub with-ir0-spec : {M : Type 1} → statement M
-with-ir0-spec = tie.close (tie.spec each-requires returns)
+with-ir0-spec = tie.close (tie.spec (λ c κs. search needs) returns)

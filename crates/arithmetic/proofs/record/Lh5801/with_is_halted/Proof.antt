@@ -3,12 +3,9 @@ use borrow.Author.Needs.{needs}
 use Rattle.arithmetic.proofs.record.Lh5801.with_is_halted.Statement.{statement}
 use Rattle.arithmetic.proofs.record.Lh5801.with_is_halted.Tie as tie
 
-each-requires : tie.Need-each-requires
-each-requires c κs = search needs
-
 returns : tie.Need-returns
 unfolding with-is-halted
 returns c = cc
 
 pub with-is-halted-spec : {M : Type 1} → statement M
-with-is-halted-spec = tie.close (tie.spec each-requires returns)
+with-is-halted-spec = tie.close (tie.spec (λ c κs. search needs) returns)

@@ -3,12 +3,9 @@ use borrow.Author.Needs.{needs}
 use Rattle.arithmetic.proofs.record.Lh5801.with_is_timer_reached.Statement.{statement}
 use Rattle.arithmetic.proofs.record.Lh5801.with_is_timer_reached.Tie as tie
 
-each-requires : tie.Need-each-requires
-each-requires c κs = search needs
-
 returns : tie.Need-returns
 unfolding with-is-timer-reached
 returns c = cc
 
 pub with-is-timer-reached-spec : {M : Type 1} → statement M
-with-is-timer-reached-spec = tie.close (tie.spec each-requires returns)
+with-is-timer-reached-spec = tie.close (tie.spec (λ c κs. search needs) returns)

@@ -3,12 +3,9 @@ use borrow.Author.Needs.{needs}
 use Rattle.arithmetic.proofs.record.Lh5801.with_p.Statement.{statement}
 use Rattle.arithmetic.proofs.record.Lh5801.with_p.Tie as tie
 
-each-requires : tie.Need-each-requires
-each-requires c κs = search needs
-
 returns : tie.Need-returns
 unfolding with-p
 returns c = cc
 
 pub with-p-spec : {M : Type 1} → statement M
-with-p-spec = tie.close (tie.spec each-requires returns)
+with-p-spec = tie.close (tie.spec (λ c κs. search needs) returns)

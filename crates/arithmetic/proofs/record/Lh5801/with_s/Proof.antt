@@ -3,12 +3,9 @@ use borrow.Author.Needs.{needs}
 use Rattle.arithmetic.proofs.record.Lh5801.with_s.Statement.{statement}
 use Rattle.arithmetic.proofs.record.Lh5801.with_s.Tie as tie
 
-each-requires : tie.Need-each-requires
-each-requires c κs = search needs
-
 returns : tie.Need-returns
 unfolding with-s
 returns c = cc
 
 pub with-s-spec : {M : Type 1} → statement M
-with-s-spec = tie.close (tie.spec each-requires returns)
+with-s-spec = tie.close (tie.spec (λ c κs. search needs) returns)

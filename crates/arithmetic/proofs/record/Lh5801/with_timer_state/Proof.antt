@@ -3,12 +3,9 @@ use borrow.Author.Needs.{needs}
 use Rattle.arithmetic.proofs.record.Lh5801.with_timer_state.Statement.{statement}
 use Rattle.arithmetic.proofs.record.Lh5801.with_timer_state.Tie as tie
 
-each-requires : tie.Need-each-requires
-each-requires c κs = search needs
-
 returns : tie.Need-returns
 unfolding with-timer-state
 returns c = cc
 
 pub with-timer-state-spec : {M : Type 1} → statement M
-with-timer-state-spec = tie.close (tie.spec each-requires returns)
+with-timer-state-spec = tie.close (tie.spec (λ c κs. search needs) returns)

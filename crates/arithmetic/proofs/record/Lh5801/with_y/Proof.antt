@@ -3,12 +3,9 @@ use borrow.Author.Needs.{needs}
 use Rattle.arithmetic.proofs.record.Lh5801.with_y.Statement.{statement}
 use Rattle.arithmetic.proofs.record.Lh5801.with_y.Tie as tie
 
-each-requires : tie.Need-each-requires
-each-requires c κs = search needs
-
 returns : tie.Need-returns
 unfolding with-y
 returns c = cc
 
 pub with-y-spec : {M : Type 1} → statement M
-with-y-spec = tie.close (tie.spec each-requires returns)
+with-y-spec = tie.close (tie.spec (λ c κs. search needs) returns)

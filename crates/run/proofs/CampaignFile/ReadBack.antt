@@ -245,15 +245,17 @@ cpu-back : (m : Lh5801) → cpuOf (registersOfCpu m) (wordsOfCpu m) (timingOfCpu
 unfolding cpuOf flagsOf
 cpu-back m =
     let b = bits m in
-    rw (flag-back (m .«is_halted») (flagsOf m % 2) (omega arith),
-    flag-back (m .pu) (flagsOf m / 2 % 2) (omega arith),
-    flag-back (m .pv) (flagsOf m / 4 % 2) (omega arith),
-    flag-back (m .bf) (flagsOf m / 8 % 2) (omega arith),
-    flag-back (m .disp) (flagsOf m / 16 % 2) (omega arith),
-    flag-back (m .ir0) (flagsOf m / 32 % 2) (omega arith),
-    flag-back (m .ir1) (flagsOf m / 64 % 2) (omega arith),
-    flag-back (m .ir2) (flagsOf m / 128 % 2) (omega arith),
-    flag-back (m .«is_timer_reached») (flagsOf m / 256 % 2) (omega arith))
+    rw (
+      flag-back (m .«is_halted») (flagsOf m % 2) (omega arith),
+      flag-back (m .pu) (flagsOf m / 2 % 2) (omega arith),
+      flag-back (m .pv) (flagsOf m / 4 % 2) (omega arith),
+      flag-back (m .bf) (flagsOf m / 8 % 2) (omega arith),
+      flag-back (m .disp) (flagsOf m / 16 % 2) (omega arith),
+      flag-back (m .ir0) (flagsOf m / 32 % 2) (omega arith),
+      flag-back (m .ir1) (flagsOf m / 64 % 2) (omega arith),
+      flag-back (m .ir2) (flagsOf m / 128 % 2) (omega arith),
+      flag-back (m .«is_timer_reached») (flagsOf m / 256 % 2) (omega arith),
+    )
 
 -- ---- the whole file
 

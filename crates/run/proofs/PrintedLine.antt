@@ -129,9 +129,6 @@ module _ {before after : List ℕ} {at next : ℕ} where
   pub decimal-next : (value end : ℕ) → Put before at (decimalOf value ++ (end ∷ [])) after next → next ≤ at + 21
   decimal-next value end p = omega (arith, p .next-is, length-append (decimalOf value) (end ∷ []), length-decimal value)
 
-  pub hex-next : (digits value : ℕ) → Put before at (hexOf digits value ++ (space ∷ [])) after next → next ≡ at + (digits + 1)
-  hex-next digits value p = omega (arith, p .next-is, length-append (hexOf digits value) (space ∷ []), length-hex digits value)
-
   pub counts-next : (number steps states : ℕ) → Put before at (spaced (countFields number steps states)) after next → next ≤ at + 63
   counts-next number steps states p =
       omega (arith, simp length-append at (p .next-is), length-decimal number, length-decimal steps, length-decimal states)

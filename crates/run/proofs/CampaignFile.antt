@@ -3,6 +3,7 @@
 -- Assumes nothing.
 pub mod Groups
 pub mod Answers
+pub mod InTurn
 pub mod Number
 pub mod ReadBack
 pub mod Accepts

@@ -3,7 +3,7 @@
 use Prim.Native.Nat.{ℕ, zero, suc, _+_, _-_, _*_, _/_, _%_, _^_, _<_, _≤_}
 use mathlib.Core.Path.{_≡_, refl, ap, sym, _∙_}
 use mathlib.Core.Bool.{Bool, true, false, cond}
-use mathlib.Core.List.{List, [], _∷_, _++_, append-assoc}
+use mathlib.Core.List.{List, [], _∷_, _++_, append-assoc, append-nil}
 use mathlib.Core.Logic.{⊎-elim}
 use native.Mathlib.Nat.{add-zero, pow-suc}
 use native.Mathlib.Omega.{arith}
@@ -35,10 +35,25 @@ put-then {before} {middle} {after} {xs} {ys} {at} {place} {next} p q = record {
   after-is = q .after-is ∙ rw (p .after-is, p .next-is) (sets-append xs ys before at);
 }
 
--- a field in front of others, with its space
-pub put-cons : {before middle after : List ℕ} {at place next : ℕ} (field : List ℕ) (fields : List (List ℕ)) → Put before at (field ++ (space ∷ [])) middle place
-    → Put middle place (spaced fields) after next → Put before at (spaced (field ∷ fields)) after next
-put-cons field fields p q = rw append-assoc at (put-then p q)
+-- the same, named by its two pieces
+pub record Then {before middle after xs ys : List ℕ} {at place next : ℕ} (p : Put before at xs middle place) (q : Put middle place ys after next) : Type 0 where
+  pub both : Put before at (xs ++ ys) after next
+
+pub then : {before middle after xs ys : List ℕ} {at place next : ℕ} (p : Put before at xs middle place) (q : Put middle place ys after next) → Then p q
+then p q = record { both = put-then p q }
+
+-- fields, each with its space, put one after another
+abbrev gathered : List ℕ → List (List ℕ) → List ℕ
+gathered so [] = so
+gathered so (field ∷ fields) = gathered (so ++ (field ++ (space ∷ []))) fields
+
+gathered-is : (so : List ℕ) (fields : List (List ℕ)) → gathered so fields ≡ so ++ spaced fields
+gathered-is so [] = sym (append-nil so)
+gathered-is so (field ∷ fields) = gathered-is (so ++ (field ++ (space ∷ []))) fields ∙ simp append-assoc
+
+pub put-fields : {before after : List ℕ} {at next : ℕ} (field : List ℕ) (fields : List (List ℕ)) → Put before at (gathered (field ++ (space ∷ [])) fields) after next
+    → Put before at (spaced (field ∷ fields)) after next
+put-fields field fields p = rw (gathered-is (field ++ (space ∷ [])) fields, append-assoc) at p
 
 pub put-length : {before after bytes : List ℕ} {at next : ℕ} → Put before at bytes after next → length after ≡ length before
 put-length {before} {after} {bytes} {at} p = ap length (p .after-is) ∙ length-sets before at bytes
@@ -113,9 +128,6 @@ length-more value top h = ap length (decimal-more value top h) ∙ length-append
 module _ {before after : List ℕ} {at next : ℕ} where
   pub decimal-next : (value end : ℕ) → Put before at (decimalOf value ++ (end ∷ [])) after next → next ≤ at + 21
   decimal-next value end p = omega (arith, p .next-is, length-append (decimalOf value) (end ∷ []), length-decimal value)
-
-  pub hex-next : (digits value : ℕ) → Put before at (hexOf digits value ++ (space ∷ [])) after next → next ≡ at + (digits + 1)
-  hex-next digits value p = omega (arith, p .next-is, length-append (hexOf digits value) (space ∷ []), length-hex digits value)
 
   pub counts-next : (number steps states : ℕ) → Put before at (spaced (countFields number steps states)) after next → next ≤ at + 63
   counts-next number steps states p =

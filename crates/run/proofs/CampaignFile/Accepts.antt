@@ -1,7 +1,7 @@
 -- A file that is accepted is the written form of what was read, and that is within its bounds.
 -- Assumes nothing.
 use Prim.Native.Nat.{ℕ, zero, suc, _+_, _-_, _*_, _/_, _%_, _^_, _<_, _≤_}
-use mathlib.Core.Path.{_≡_, refl, ap, ap₂, sym, subst₂, _∙_}
+use mathlib.Core.Path.{_≡_, refl, ap, ap₂, sym, subst, subst₂, _∙_}
 use mathlib.Core.Bool.{Bool, true, false, cond, not, _||_}
 use mathlib.Core.List.{List, [], _∷_, _++_, append-assoc, append-nil}
 use native.Mathlib.Omega.{arith}
@@ -20,6 +20,7 @@ use Rattle.run.specs.declared.campaign_file.Page.{Page}
 use Rattle.run.specs.declared.campaign_file.Parsed.{Parsed}
 use Rattle.run.specs.declared.Settings.{Settings}
 use Rattle.run.proofs.CampaignFile.Number.{never, number-read, groups-within}
+use Rattle.run.proofs.CampaignFile.InTurn.{two, five, reading}
 
 -- ---- numbers
 
@@ -160,8 +161,69 @@ number-then greatest bytes at rest b next bs e =
 read-same : {A : Type 0} {a b : A} {m n : ℕ} → read a m ≡ read b n → (a ≡ b) × (m ≡ n)
 read-same e = (cc, cc)
 
-took-none : (bytes : List ℕ) (at : ℕ) → Took bytes at [] at
-took-none bytes at = record { there = refl }
+took-none : (bytes : List ℕ) {at next : ℕ} → at ≡ next → Took bytes at [] next
+took-none bytes e = record { there = ap (λ (n : ℕ). drop n bytes) e }
+
+-- two numbers in turn, and what was made of them
+record TwoTook {B : Type 0} (g h : ℕ) (make : ℕ → ℕ → B) (bytes : List ℕ) (at : ℕ) (b : B) (next : ℕ) : Type 0 where
+  v : ℕ
+  w : ℕ
+  made : make v w ≡ b
+  took : Took bytes at (numbersBytes (v ∷ w ∷ [])) next
+  fits-v : v ≤ g
+  fits-w : w ≤ h
+
+two-took : {B : Type 0} (g h : ℕ) (make : ℕ → ℕ → B) (bytes : List ℕ) (at : ℕ) (b : B) (next : ℕ) → Bytes bytes
+    → reading (two g h make) bytes at ≡ read b next → TwoTook g h make bytes at b next
+two-took g h make bytes at b next bs e =
+    let o1 = number-then g bytes at _ b next bs e in
+    let o2 = number-then h bytes (o1 .place) _ b next bs (o1 .then) in
+    let same = read-same (o2 .then) in
+    record {
+      v = o1 .value;
+      w = o2 .value;
+      made = same .0;
+      took = took-then (o1 .took) (took-then (o2 .took) (took-none bytes (same .1)));
+      fits-v = o1 .fits;
+      fits-w = o2 .fits;
+    }
+
+-- five numbers in turn: three, and then two
+record FiveTook {B : Type 0} (g h i j k : ℕ) (make : ℕ → ℕ → ℕ → ℕ → ℕ → B) (bytes : List ℕ) (at : ℕ) (b : B) (next : ℕ) : Type 0 where
+  v : ℕ
+  w : ℕ
+  x : ℕ
+  y : ℕ
+  z : ℕ
+  made : make v w x y z ≡ b
+  took : Took bytes at (numbersBytes (v ∷ w ∷ x ∷ y ∷ z ∷ [])) next
+  fits-v : v ≤ g
+  fits-w : w ≤ h
+  fits-x : x ≤ i
+  fits-y : y ≤ j
+  fits-z : z ≤ k
+
+five-took : {B : Type 0} (g h i j k : ℕ) (make : ℕ → ℕ → ℕ → ℕ → ℕ → B) (bytes : List ℕ) (at : ℕ) (b : B) (next : ℕ) → Bytes bytes
+    → reading (five g h i j k make) bytes at ≡ read b next → FiveTook g h i j k make bytes at b next
+five-took g h i j k make bytes at b next bs e =
+    let o1 = number-then g bytes at _ b next bs e in
+    let o2 = number-then h bytes (o1 .place) _ b next bs (o1 .then) in
+    let o3 = number-then i bytes (o2 .place) _ b next bs (o2 .then) in
+    let o = two-took j k (make (o1 .value) (o2 .value) (o3 .value)) bytes (o3 .place) b next bs (o3 .then) in
+    record {
+      v = o1 .value;
+      w = o2 .value;
+      x = o3 .value;
+      y = o .v;
+      z = o .w;
+      made = o .made;
+      took = took-then (o1 .took) (took-then (o2 .took) (took-then (o3 .took) (o .took)));
+      fits-v = o1 .fits;
+      fits-w = o2 .fits;
+      fits-x = o3 .fits;
+      fits-y = o .fits-v;
+      fits-z = o .fits-w;
+    }
 
 -- ---- the fields
 
@@ -173,11 +235,8 @@ record RegistersTook (bytes : List ℕ) (at : ℕ) (r : Registers) (next : ℕ) 
 registers-took : (bytes : List ℕ) (at : ℕ) (r : Registers) (next : ℕ) → Bytes bytes → registersOf bytes at ≡ read r next → RegistersTook bytes at r next
 unfolding registersOf
 registers-took bytes at r next bs e =
-    let o1 = number-then 255 bytes at _ r next bs e in
-    let o2 = number-then 255 bytes (o1 .place) _ r next bs (o1 .then) in
-    let same = read-same (o2 .then) in
-    subst₂ (λ (x : Registers) (n : ℕ). RegistersTook bytes at x n) (same .0) (same .1)
-    (record { took = took-then (o1 .took) (took-then (o2 .took) (took-none bytes (o2 .place))); a = o1 .fits; t = o2 .fits })
+    let o = two-took 255 255 (λ a t. record { a = a; t = t }) bytes at r next bs e in
+    subst (λ (m : Registers). RegistersTook bytes at m next) (o .made) (record { took = o .took; a = o .fits-v; t = o .fits-w })
 
 record WordsTook (bytes : List ℕ) (at : ℕ) (r : Words) (next : ℕ) : Type 0 where
   took : Took bytes at (numbersBytes (r .x ∷ r .y ∷ r .u ∷ r .s ∷ r .p ∷ [])) next
@@ -190,21 +249,8 @@ record WordsTook (bytes : List ℕ) (at : ℕ) (r : Words) (next : ℕ) : Type 0
 words-took : (bytes : List ℕ) (at : ℕ) (r : Words) (next : ℕ) → Bytes bytes → wordsOf bytes at ≡ read r next → WordsTook bytes at r next
 unfolding wordsOf
 words-took bytes at r next bs e =
-    let o1 = number-then 65535 bytes at _ r next bs e in
-    let o2 = number-then 65535 bytes (o1 .place) _ r next bs (o1 .then) in
-    let o3 = number-then 65535 bytes (o2 .place) _ r next bs (o2 .then) in
-    let o4 = number-then 65535 bytes (o3 .place) _ r next bs (o3 .then) in
-    let o5 = number-then 65535 bytes (o4 .place) _ r next bs (o4 .then) in
-    let same = read-same (o5 .then) in
-    subst₂ (λ (x : Words) (n : ℕ). WordsTook bytes at x n) (same .0) (same .1)
-    (record {
-      took = took-then (o1 .took) (took-then (o2 .took) (took-then (o3 .took) (took-then (o4 .took) (took-then (o5 .took) (took-none bytes (o5 .place))))));
-      x = o1 .fits;
-      y = o2 .fits;
-      u = o3 .fits;
-      s = o4 .fits;
-      p = o5 .fits;
-    })
+    let o = five-took 65535 65535 65535 65535 65535 (λ x y u s p. record { x = x; y = y; u = u; s = s; p = p }) bytes at r next bs e in
+    subst (λ (m : Words). WordsTook bytes at m next) (o .made) (record { took = o .took; x = o .fits-v; y = o .fits-w; u = o .fits-x; s = o .fits-y; p = o .fits-z })
 
 record TimingTook (bytes : List ℕ) (at : ℕ) (r : Timing) (next : ℕ) : Type 0 where
   took : Took bytes at (numbersBytes (r .tm ∷ r .flags ∷ r .«timer_state» ∷ r .«step_previous_state» ∷ r .ticks ∷ [])) next
@@ -217,21 +263,9 @@ record TimingTook (bytes : List ℕ) (at : ℕ) (r : Timing) (next : ℕ) : Type
 timing-took : (bytes : List ℕ) (at : ℕ) (r : Timing) (next : ℕ) → Bytes bytes → timingOf bytes at ≡ read r next → TimingTook bytes at r next
 unfolding timingOf
 timing-took bytes at r next bs e =
-    let o1 = number-then 4095 bytes at _ r next bs e in
-    let o2 = number-then 511 bytes (o1 .place) _ r next bs (o1 .then) in
-    let o3 = number-then (2 ^ 64 - 1) bytes (o2 .place) _ r next bs (o2 .then) in
-    let o4 = number-then (2 ^ 64 - 1) bytes (o3 .place) _ r next bs (o3 .then) in
-    let o5 = number-then (2 ^ 64 - 1) bytes (o4 .place) _ r next bs (o4 .then) in
-    let same = read-same (o5 .then) in
-    subst₂ (λ (x : Timing) (n : ℕ). TimingTook bytes at x n) (same .0) (same .1)
-    (record {
-      took = took-then (o1 .took) (took-then (o2 .took) (took-then (o3 .took) (took-then (o4 .took) (took-then (o5 .took) (took-none bytes (o5 .place))))));
-      tm = o1 .fits;
-      flags = o2 .fits;
-      states = o3 .fits;
-      previous = o4 .fits;
-      ticks = o5 .fits;
-    })
+    let o = five-took 4095 511 (2 ^ 64 - 1) (2 ^ 64 - 1) (2 ^ 64 - 1)
+    (λ tm flags states previous ticks. record { tm = tm; flags = flags; «timer_state» = states; «step_previous_state» = previous; ticks = ticks }) bytes at r next bs e in
+    subst (λ (m : Timing). TimingTook bytes at m next) (o .made) (record { took = o .took; tm = o .fits-v; flags = o .fits-w; states = o .fits-x; previous = o .fits-y; ticks = o .fits-z })
 
 record SettingsTook (bytes : List ℕ) (at : ℕ) (r : Settings) (next : ℕ) : Type 0 where
   took : Took bytes at (numbersBytes (r .keyboard ∷ r .limit ∷ [])) next
@@ -241,15 +275,8 @@ record SettingsTook (bytes : List ℕ) (at : ℕ) (r : Settings) (next : ℕ) : 
 settings-took : (bytes : List ℕ) (at : ℕ) (r : Settings) (next : ℕ) → Bytes bytes → settingsOf bytes at ≡ read r next → SettingsTook bytes at r next
 unfolding settingsOf
 settings-took bytes at r next bs e =
-    let o1 = number-then 255 bytes at _ r next bs e in
-    let o2 = number-then (2 ^ 32 - 1) bytes (o1 .place) _ r next bs (o1 .then) in
-    let same = read-same (o2 .then) in
-    subst₂ (λ (x : Settings) (n : ℕ). SettingsTook bytes at x n) (same .0) (same .1)
-    (record {
-      took = took-then (o1 .took) (took-then (o2 .took) (took-none bytes (o2 .place)));
-      keyboard = o1 .fits;
-      limit = o2 .fits;
-    })
+    let o = two-took 255 (2 ^ 32 - 1) (λ keyboard limit. record { keyboard = keyboard; limit = limit }) bytes at r next bs e in
+    subst (λ (m : Settings). SettingsTook bytes at m next) (o .made) (record { took = o .took; keyboard = o .fits-v; limit = o .fits-w })
 
 -- a page: its bytes are those of the file at its place
 abbrev bytesAt : List ℕ → Page → List ℕ

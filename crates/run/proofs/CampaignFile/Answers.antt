@@ -3,7 +3,9 @@
 use Prim.Native.Nat.{ℕ}
 use mathlib.Core.Path.{_≡_, refl, ap, sym, _∙_}
 use Rattle.run.specs.CampaignFile.{Field, read, refused, numberAnswer, registersAnswer, wordsAnswer, timingAnswer, settingsAnswer, pageAnswer}
+use Rattle.run.specs.CampaignFile.{numberStop, registersStop, wordsStop, timingStop, settingsStop, pageStop}
 use Rattle.run.specs.declared.Settings.{Settings}
+use Rattle.run.specs.declared.campaign_file.Refusal.{Refusal}
 use Rattle.run.specs.declared.campaign_file.Number.{Number}
 use Rattle.run.specs.declared.campaign_file.Registers.{Registers}
 use Rattle.run.specs.declared.campaign_file.RegistersRead.{RegistersRead}
@@ -15,78 +17,88 @@ use Rattle.run.specs.declared.campaign_file.SettingsRead.{SettingsRead}
 use Rattle.run.specs.declared.campaign_file.Page.{Page}
 use Rattle.run.specs.declared.campaign_file.PageRead.{PageRead}
 
-told : {A X : Type 0} (answer : Field A → X) (field : X → Field A) → ((f : Field A) → field (answer f) ≡ f) → (f : Field A) (x y : X) → x ≡ answer f → x ≡ y
-    → f ≡ field y
-told answer field back f x y e is = sym (back f) ∙ ap field (sym e ∙ is)
+module _ {A X : Type 0} (answer : Field A → X) (field : X → Field A) (at-read : (a : A) (n : ℕ) → field (answer (read a n)) ≡ read a n)
+    (at-refused : (s : Refusal) → field (answer (refused s)) ≡ refused s) (f : Field A) (x y : X) where
+  back : (g : Field A) → field (answer g) ≡ g
+  back (read a n) = at-read a n
+  back (refused s) = at-refused s
+
+  -- what an answer that is known tells
+  told : x ≡ answer f → x ≡ y → f ≡ field y
+  told e is = sym (back f) ∙ ap field (sym e ∙ is)
+
+  -- the refusal that is handed upward is the field's
+  stopped : (stop : X → Refusal) {r : Refusal} → field y ≡ refused (stop y) → x ≡ answer f → x ≡ y → r ≡ stop x → f ≡ refused r
+  stopped stop at e is handed = told e is ∙ at ∙ ap refused (sym (handed ∙ ap stop is))
 
 abbrev pub numberField : Number → Field ℕ
 numberField (Number.Read value next) = read value (next .at)
 numberField (Number.Refused stop) = refused stop
 
-number-back : (f : Field ℕ) → numberField (numberAnswer f) ≡ f
-unfolding numberAnswer
-number-back (read value next) = refl
-number-back (refused stop) = refl
-
 pub number-told : {f : Field ℕ} {x y : Number} → x ≡ numberAnswer f → x ≡ y → f ≡ numberField y
-number-told {f} {x} {y} = told numberAnswer numberField number-back f x y
+unfolding numberAnswer
+number-told {f} {x} {y} = told numberAnswer numberField (λ a n. refl) (λ s. refl) f x y
+
+pub number-stopped : {f : Field ℕ} {x : Number} {s r : Refusal} → x ≡ numberAnswer f → x ≡ Number.Refused s → r ≡ numberStop x → f ≡ refused r
+unfolding numberAnswer
+number-stopped {f} {x} {s} = stopped numberAnswer numberField (λ a n. refl) (λ s. refl) f x (Number.Refused s) numberStop refl
 
 abbrev pub registersField : RegistersRead → Field Registers
 registersField (RegistersRead.Read value next) = read value (next .at)
 registersField (RegistersRead.Refused stop) = refused stop
 
-registers-back : (f : Field Registers) → registersField (registersAnswer f) ≡ f
-unfolding registersAnswer
-registers-back (read value next) = refl
-registers-back (refused stop) = refl
-
 pub registers-told : {f : Field Registers} {x y : RegistersRead} → x ≡ registersAnswer f → x ≡ y → f ≡ registersField y
-registers-told {f} {x} {y} = told registersAnswer registersField registers-back f x y
+unfolding registersAnswer
+registers-told {f} {x} {y} = told registersAnswer registersField (λ a n. refl) (λ s. refl) f x y
+
+pub registers-stopped : {f : Field Registers} {x : RegistersRead} {s r : Refusal} → x ≡ registersAnswer f → x ≡ RegistersRead.Refused s → r ≡ registersStop x → f ≡ refused r
+unfolding registersAnswer
+registers-stopped {f} {x} {s} = stopped registersAnswer registersField (λ a n. refl) (λ s. refl) f x (RegistersRead.Refused s) registersStop refl
 
 abbrev pub wordsField : WordsRead → Field Words
 wordsField (WordsRead.Read value next) = read value (next .at)
 wordsField (WordsRead.Refused stop) = refused stop
 
-words-back : (f : Field Words) → wordsField (wordsAnswer f) ≡ f
-unfolding wordsAnswer
-words-back (read value next) = refl
-words-back (refused stop) = refl
-
 pub words-told : {f : Field Words} {x y : WordsRead} → x ≡ wordsAnswer f → x ≡ y → f ≡ wordsField y
-words-told {f} {x} {y} = told wordsAnswer wordsField words-back f x y
+unfolding wordsAnswer
+words-told {f} {x} {y} = told wordsAnswer wordsField (λ a n. refl) (λ s. refl) f x y
+
+pub words-stopped : {f : Field Words} {x : WordsRead} {s r : Refusal} → x ≡ wordsAnswer f → x ≡ WordsRead.Refused s → r ≡ wordsStop x → f ≡ refused r
+unfolding wordsAnswer
+words-stopped {f} {x} {s} = stopped wordsAnswer wordsField (λ a n. refl) (λ s. refl) f x (WordsRead.Refused s) wordsStop refl
 
 abbrev pub timingField : TimingRead → Field Timing
 timingField (TimingRead.Read value next) = read value (next .at)
 timingField (TimingRead.Refused stop) = refused stop
 
-timing-back : (f : Field Timing) → timingField (timingAnswer f) ≡ f
-unfolding timingAnswer
-timing-back (read value next) = refl
-timing-back (refused stop) = refl
-
 pub timing-told : {f : Field Timing} {x y : TimingRead} → x ≡ timingAnswer f → x ≡ y → f ≡ timingField y
-timing-told {f} {x} {y} = told timingAnswer timingField timing-back f x y
+unfolding timingAnswer
+timing-told {f} {x} {y} = told timingAnswer timingField (λ a n. refl) (λ s. refl) f x y
+
+pub timing-stopped : {f : Field Timing} {x : TimingRead} {s r : Refusal} → x ≡ timingAnswer f → x ≡ TimingRead.Refused s → r ≡ timingStop x → f ≡ refused r
+unfolding timingAnswer
+timing-stopped {f} {x} {s} = stopped timingAnswer timingField (λ a n. refl) (λ s. refl) f x (TimingRead.Refused s) timingStop refl
 
 abbrev pub settingsField : SettingsRead → Field Settings
 settingsField (SettingsRead.Read value next) = read value (next .at)
 settingsField (SettingsRead.Refused stop) = refused stop
 
-settings-back : (f : Field Settings) → settingsField (settingsAnswer f) ≡ f
-unfolding settingsAnswer
-settings-back (read value next) = refl
-settings-back (refused stop) = refl
-
 pub settings-told : {f : Field Settings} {x y : SettingsRead} → x ≡ settingsAnswer f → x ≡ y → f ≡ settingsField y
-settings-told {f} {x} {y} = told settingsAnswer settingsField settings-back f x y
+unfolding settingsAnswer
+settings-told {f} {x} {y} = told settingsAnswer settingsField (λ a n. refl) (λ s. refl) f x y
+
+pub settings-stopped : {f : Field Settings} {x : SettingsRead} {s r : Refusal} → x ≡ settingsAnswer f → x ≡ SettingsRead.Refused s → r ≡ settingsStop x → f ≡ refused r
+unfolding settingsAnswer
+settings-stopped {f} {x} {s} = stopped settingsAnswer settingsField (λ a n. refl) (λ s. refl) f x (SettingsRead.Refused s) settingsStop refl
 
 abbrev pub pageField : PageRead → Field Page
 pageField (PageRead.Read value next) = read value (next .at)
 pageField (PageRead.Refused stop) = refused stop
 
-page-back : (f : Field Page) → pageField (pageAnswer f) ≡ f
-unfolding pageAnswer
-page-back (read value next) = refl
-page-back (refused stop) = refl
-
 pub page-told : {f : Field Page} {x y : PageRead} → x ≡ pageAnswer f → x ≡ y → f ≡ pageField y
-page-told {f} {x} {y} = told pageAnswer pageField page-back f x y
+unfolding pageAnswer
+page-told {f} {x} {y} = told pageAnswer pageField (λ a n. refl) (λ s. refl) f x y
+
+pub page-stopped : {f : Field Page} {x : PageRead} {s r : Refusal} → x ≡ pageAnswer f → x ≡ PageRead.Refused s → r ≡ pageStop x → f ≡ refused r
+unfolding pageAnswer
+page-stopped {f} {x} {s} = stopped pageAnswer pageField (λ a n. refl) (λ s. refl) f x (PageRead.Refused s) pageStop refl

@@ -200,80 +200,34 @@ bit-small : (b : Bool) → bitOf b ≤ 1
 bit-small true = omega arith
 bit-small false = omega arith
 
+-- each bit of the flags is at most 1
+record Bits (m : Lh5801) : Type 0 where
+  halted : bitOf (m .«is_halted») ≤ 1
+  pu : bitOf (m .pu) ≤ 1
+  pv : bitOf (m .pv) ≤ 1
+  bf : bitOf (m .bf) ≤ 1
+  disp : bitOf (m .disp) ≤ 1
+  ir0 : bitOf (m .ir0) ≤ 1
+  ir1 : bitOf (m .ir1) ≤ 1
+  ir2 : bitOf (m .ir2) ≤ 1
+  reached : bitOf (m .«is_timer_reached») ≤ 1
+
+bits : (m : Lh5801) → Bits m
+bits m = record {
+  halted = bit-small (m .«is_halted»);
+  pu = bit-small (m .pu);
+  pv = bit-small (m .pv);
+  bf = bit-small (m .bf);
+  disp = bit-small (m .disp);
+  ir0 = bit-small (m .ir0);
+  ir1 = bit-small (m .ir1);
+  ir2 = bit-small (m .ir2);
+  reached = bit-small (m .«is_timer_reached»);
+}
+
 flags-small : (m : Lh5801) → flagsOf m ≤ 511
 unfolding flagsOf
-flags-small m =
-    omega (arith, bit-small (m .«is_halted»), bit-small (m .pu), bit-small (m .pv), bit-small (m .bf), bit-small (m .disp), bit-small (m .ir0), bit-small (m .ir1), bit-small (m .ir2), bit-small (m .«is_timer_reached»))
-
--- the bits of a number that was put together from bits
-module _ (b0 b1 b2 b3 b4 b5 b6 b7 b8 : ℕ) (h0 : b0 ≤ 1) (h1 : b1 ≤ 1) (h2 : b2 ≤ 1) (h3 : b3 ≤ 1) (h4 : b4 ≤ 1) (h5 : b5 ≤ 1) (h6 : b6 ≤ 1) (h7 : b7 ≤ 1) (h8 : b8 ≤ 1) where
-  abbrev all : ℕ
-  all = b0 + 2 * b1 + 4 * b2 + 8 * b3 + 16 * b4 + 32 * b5 + 64 * b6 + 128 * b7 + 256 * b8
-
-  is0 : all % 2 ≡ b0
-  is0 = omega arith
-
-  is1 : all / 2 % 2 ≡ b1
-  is1 = omega arith
-
-  is2 : all / 4 % 2 ≡ b2
-  is2 = omega arith
-
-  is3 : all / 8 % 2 ≡ b3
-  is3 = omega arith
-
-  is4 : all / 16 % 2 ≡ b4
-  is4 = omega arith
-
-  is5 : all / 32 % 2 ≡ b5
-  is5 = omega arith
-
-  is6 : all / 64 % 2 ≡ b6
-  is6 = omega arith
-
-  is7 : all / 128 % 2 ≡ b7
-  is7 = omega arith
-
-  is8 : all / 256 % 2 ≡ b8
-  is8 = omega arith
-
--- each flag comes back
-module _ (m : Lh5801) where
-  flag0 : eqb (flagsOf m % 2) 1 ≡ m .«is_halted»
-  unfolding flagsOf
-  flag0 = ap (λ (n : ℕ). eqb n 1) (is0 (bitOf (m .«is_halted»)) (bitOf (m .pu)) (bitOf (m .pv)) (bitOf (m .bf)) (bitOf (m .disp)) (bitOf (m .ir0)) (bitOf (m .ir1)) (bitOf (m .ir2)) (bitOf (m .«is_timer_reached»)) (bit-small (m .«is_halted»)) (bit-small (m .pu)) (bit-small (m .pv)) (bit-small (m .bf)) (bit-small (m .disp)) (bit-small (m .ir0)) (bit-small (m .ir1)) (bit-small (m .ir2)) (bit-small (m .«is_timer_reached»))) ∙ bit-is (m .«is_halted»)
-
-  flag1 : eqb (flagsOf m / 2 % 2) 1 ≡ m .pu
-  unfolding flagsOf
-  flag1 = ap (λ (n : ℕ). eqb n 1) (is1 (bitOf (m .«is_halted»)) (bitOf (m .pu)) (bitOf (m .pv)) (bitOf (m .bf)) (bitOf (m .disp)) (bitOf (m .ir0)) (bitOf (m .ir1)) (bitOf (m .ir2)) (bitOf (m .«is_timer_reached»)) (bit-small (m .«is_halted»)) (bit-small (m .pu)) (bit-small (m .pv)) (bit-small (m .bf)) (bit-small (m .disp)) (bit-small (m .ir0)) (bit-small (m .ir1)) (bit-small (m .ir2)) (bit-small (m .«is_timer_reached»))) ∙ bit-is (m .pu)
-
-  flag2 : eqb (flagsOf m / 4 % 2) 1 ≡ m .pv
-  unfolding flagsOf
-  flag2 = ap (λ (n : ℕ). eqb n 1) (is2 (bitOf (m .«is_halted»)) (bitOf (m .pu)) (bitOf (m .pv)) (bitOf (m .bf)) (bitOf (m .disp)) (bitOf (m .ir0)) (bitOf (m .ir1)) (bitOf (m .ir2)) (bitOf (m .«is_timer_reached»)) (bit-small (m .«is_halted»)) (bit-small (m .pu)) (bit-small (m .pv)) (bit-small (m .bf)) (bit-small (m .disp)) (bit-small (m .ir0)) (bit-small (m .ir1)) (bit-small (m .ir2)) (bit-small (m .«is_timer_reached»))) ∙ bit-is (m .pv)
-
-  flag3 : eqb (flagsOf m / 8 % 2) 1 ≡ m .bf
-  unfolding flagsOf
-  flag3 = ap (λ (n : ℕ). eqb n 1) (is3 (bitOf (m .«is_halted»)) (bitOf (m .pu)) (bitOf (m .pv)) (bitOf (m .bf)) (bitOf (m .disp)) (bitOf (m .ir0)) (bitOf (m .ir1)) (bitOf (m .ir2)) (bitOf (m .«is_timer_reached»)) (bit-small (m .«is_halted»)) (bit-small (m .pu)) (bit-small (m .pv)) (bit-small (m .bf)) (bit-small (m .disp)) (bit-small (m .ir0)) (bit-small (m .ir1)) (bit-small (m .ir2)) (bit-small (m .«is_timer_reached»))) ∙ bit-is (m .bf)
-
-  flag4 : eqb (flagsOf m / 16 % 2) 1 ≡ m .disp
-  unfolding flagsOf
-  flag4 = ap (λ (n : ℕ). eqb n 1) (is4 (bitOf (m .«is_halted»)) (bitOf (m .pu)) (bitOf (m .pv)) (bitOf (m .bf)) (bitOf (m .disp)) (bitOf (m .ir0)) (bitOf (m .ir1)) (bitOf (m .ir2)) (bitOf (m .«is_timer_reached»)) (bit-small (m .«is_halted»)) (bit-small (m .pu)) (bit-small (m .pv)) (bit-small (m .bf)) (bit-small (m .disp)) (bit-small (m .ir0)) (bit-small (m .ir1)) (bit-small (m .ir2)) (bit-small (m .«is_timer_reached»))) ∙ bit-is (m .disp)
-
-  flag5 : eqb (flagsOf m / 32 % 2) 1 ≡ m .ir0
-  unfolding flagsOf
-  flag5 = ap (λ (n : ℕ). eqb n 1) (is5 (bitOf (m .«is_halted»)) (bitOf (m .pu)) (bitOf (m .pv)) (bitOf (m .bf)) (bitOf (m .disp)) (bitOf (m .ir0)) (bitOf (m .ir1)) (bitOf (m .ir2)) (bitOf (m .«is_timer_reached»)) (bit-small (m .«is_halted»)) (bit-small (m .pu)) (bit-small (m .pv)) (bit-small (m .bf)) (bit-small (m .disp)) (bit-small (m .ir0)) (bit-small (m .ir1)) (bit-small (m .ir2)) (bit-small (m .«is_timer_reached»))) ∙ bit-is (m .ir0)
-
-  flag6 : eqb (flagsOf m / 64 % 2) 1 ≡ m .ir1
-  unfolding flagsOf
-  flag6 = ap (λ (n : ℕ). eqb n 1) (is6 (bitOf (m .«is_halted»)) (bitOf (m .pu)) (bitOf (m .pv)) (bitOf (m .bf)) (bitOf (m .disp)) (bitOf (m .ir0)) (bitOf (m .ir1)) (bitOf (m .ir2)) (bitOf (m .«is_timer_reached»)) (bit-small (m .«is_halted»)) (bit-small (m .pu)) (bit-small (m .pv)) (bit-small (m .bf)) (bit-small (m .disp)) (bit-small (m .ir0)) (bit-small (m .ir1)) (bit-small (m .ir2)) (bit-small (m .«is_timer_reached»))) ∙ bit-is (m .ir1)
-
-  flag7 : eqb (flagsOf m / 128 % 2) 1 ≡ m .ir2
-  unfolding flagsOf
-  flag7 = ap (λ (n : ℕ). eqb n 1) (is7 (bitOf (m .«is_halted»)) (bitOf (m .pu)) (bitOf (m .pv)) (bitOf (m .bf)) (bitOf (m .disp)) (bitOf (m .ir0)) (bitOf (m .ir1)) (bitOf (m .ir2)) (bitOf (m .«is_timer_reached»)) (bit-small (m .«is_halted»)) (bit-small (m .pu)) (bit-small (m .pv)) (bit-small (m .bf)) (bit-small (m .disp)) (bit-small (m .ir0)) (bit-small (m .ir1)) (bit-small (m .ir2)) (bit-small (m .«is_timer_reached»))) ∙ bit-is (m .ir2)
-
-  flag8 : eqb (flagsOf m / 256 % 2) 1 ≡ m .«is_timer_reached»
-  unfolding flagsOf
-  flag8 = ap (λ (n : ℕ). eqb n 1) (is8 (bitOf (m .«is_halted»)) (bitOf (m .pu)) (bitOf (m .pv)) (bitOf (m .bf)) (bitOf (m .disp)) (bitOf (m .ir0)) (bitOf (m .ir1)) (bitOf (m .ir2)) (bitOf (m .«is_timer_reached»)) (bit-small (m .«is_halted»)) (bit-small (m .pu)) (bit-small (m .pv)) (bit-small (m .bf)) (bit-small (m .disp)) (bit-small (m .ir0)) (bit-small (m .ir1)) (bit-small (m .ir2)) (bit-small (m .«is_timer_reached»))) ∙ bit-is (m .«is_timer_reached»)
+flags-small m = let b = bits m in omega arith
 
 abbrev registersOfCpu : Lh5801 → Registers
 registersOfCpu m = record { a = m .a; t = m .t }
@@ -284,9 +238,24 @@ wordsOfCpu m = record { x = m .x; y = m .y; u = m .u; s = m .s; p = m .p }
 abbrev timingOfCpu : Lh5801 → Timing
 timingOfCpu m = record { tm = m .tm; flags = flagsOf m; «timer_state» = m .«timer_state»; «step_previous_state» = m .«step_previous_state»; ticks = m .ticks }
 
+flag-back : (b : Bool) (n : ℕ) → n ≡ bitOf b → eqb n 1 ≡ b
+flag-back b n e = ap (λ (k : ℕ). eqb k 1) e ∙ bit-is b
+
 cpu-back : (m : Lh5801) → cpuOf (registersOfCpu m) (wordsOfCpu m) (timingOfCpu m) ≡ m
-unfolding cpuOf
-cpu-back m = rw (flag0 m, flag1 m, flag2 m, flag3 m, flag4 m, flag5 m, flag6 m, flag7 m, flag8 m)
+unfolding cpuOf flagsOf
+cpu-back m =
+    let b = bits m in
+    rw (
+      flag-back (m .«is_halted») (flagsOf m % 2) (omega arith),
+      flag-back (m .pu) (flagsOf m / 2 % 2) (omega arith),
+      flag-back (m .pv) (flagsOf m / 4 % 2) (omega arith),
+      flag-back (m .bf) (flagsOf m / 8 % 2) (omega arith),
+      flag-back (m .disp) (flagsOf m / 16 % 2) (omega arith),
+      flag-back (m .ir0) (flagsOf m / 32 % 2) (omega arith),
+      flag-back (m .ir1) (flagsOf m / 64 % 2) (omega arith),
+      flag-back (m .ir2) (flagsOf m / 128 % 2) (omega arith),
+      flag-back (m .«is_timer_reached») (flagsOf m / 256 % 2) (omega arith),
+    )
 
 -- ---- the whole file
 

@@ -6,11 +6,8 @@ use borrow.Author.Needs.{needs}
 use Rattle.run.proofs.answered.Statement.{statement}
 use Rattle.run.proofs.answered.Tie as tie
 
-wrapping-sub-u64-requires : tie.Need-wrapping-sub-u64-requires
-wrapping-sub-u64-requires c κs = search needs
-
 returns : tie.Need-returns
 returns c = ap (λ (n : ℕ). answer (c .before .args .end) (c .before .args .steps) n (c .before .args .cpu)) (states-only (search needs) (search needs) (c .wrapping-sub-u64 .ensures))
 
 pub answered-spec : {M : Type 1} → statement M
-answered-spec = tie.close (tie.spec wrapping-sub-u64-requires returns)
+answered-spec = tie.close (tie.spec (λ c κs. search needs) returns)

@@ -6,44 +6,23 @@ use Rattle.run.proofs.Loop.{refused-answers, accepted-answers}
 use Rattle.run.proofs.run.Statement.{statement}
 use Rattle.run.proofs.run.Tie as tie
 
-refused-requires : tie.Need-refused-requires
-refused-requires c κs = search needs
-
 returns : tie.Need-returns
 returns c = refused-answers _ _ _ (entry-page0 _ _ _ (c .before .if1 .taken)) (c .refused .ensures)
-
-refused-requires-2 : tie.Need-refused-requires-2
-refused-requires-2 c κs = search needs
 
 returns-2 : tie.Need-returns-2
 returns-2 c = refused-answers _ _ _ (entry-page1 _ _ _ (λ h. omega arith) (c .before .if2 .taken)) (c .refused2 .ensures)
 
-refused-requires-3 : tie.Need-refused-requires-3
-refused-requires-3 c κs = search needs
-
 returns-3 : tie.Need-returns-3
 returns-3 c = refused-answers _ _ _ (entry-timer _ _ _ (λ h. omega arith) (λ h. omega arith) (c .before .if3 .taken)) (c .refused3 .ensures)
 
-refused-requires-4 : tie.Need-refused-requires-4
-refused-requires-4 c κs = search needs
-
 returns-4 : tie.Need-returns-4
 returns-4 c = refused-answers _ _ _ (entry-limit _ _ _ (λ h. omega arith) (λ h. omega arith) (λ h. omega arith) (inl (c .before .if4 .taken))) (c .refused4 .ensures)
-
-refused-requires-5 : tie.Need-refused-requires-5
-refused-requires-5 c κs = search needs
 
 returns-5 : tie.Need-returns-5
 returns-5 c = refused-answers _ _ _ (entry-limit _ _ _ (λ h. omega arith) (λ h. omega arith) (λ h. omega arith) (inr (c .before .if5 .taken))) (c .refused5 .ensures)
 
 steps-of-requires : tie.Need-steps-of-requires
 steps-of-requires c κs = (omega arith, omega arith)
-
-same-length : tie.Need-same-length
-same-length c = search needs
-
-same-length-2 : tie.Need-same-length-2
-same-length-2 c = search needs
 
 returns-6 : tie.Need-returns-6
 returns-6 c = accepted-answers _ _ _ (record { page0 = (λ h. omega arith); page1 = (λ h. omega arith); timer = (λ h. omega arith); limit = ⊎-elim (c .before .before .before .before .before .before .before .before .before .if4 .left) (λ h. omega arith) }) (c .before .before .before .before .steps-of .ensures)
@@ -52,17 +31,17 @@ pub run-spec : {M : Type 1} → statement M
 run-spec =
     tie.close
     (tie.spec
-    refused-requires
+    (λ c κs. search needs)
     returns
-    refused-requires-2
+    (λ c κs. search needs)
     returns-2
-    refused-requires-3
+    (λ c κs. search needs)
     returns-3
-    refused-requires-4
+    (λ c κs. search needs)
     returns-4
-    refused-requires-5
+    (λ c κs. search needs)
     returns-5
     steps-of-requires
-    same-length
-    same-length-2
+    (λ c. search needs)
+    (λ c. search needs)
     returns-6)

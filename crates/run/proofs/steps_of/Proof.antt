@@ -18,23 +18,8 @@ loop-holds c = record { long0 = refl; long1 = refl; going = at-start _ _ _ _ (c 
 step-cpu-requires : tie.Need-step-cpu-requires Inv-loop μ-loop
 step-cpu-requires c κs = c .before .before .before .loop .inv .going .small
 
-enum-known-outcome : tie.Need-enum-known-outcome Inv-loop μ-loop
-enum-known-outcome c = search needs
-
-add-steps : tie.Need-add-steps Inv-loop μ-loop
-add-steps c = omega arith
-
-loop-less : tie.Need-loop-less Inv-loop μ-loop
-loop-less c = omega arith
-
 loop-again : tie.Need-loop-again Inv-loop μ-loop
 loop-again c = record { long0 = c .before .before .before .before .before .before .before .step-cpu .kept .1 .0 ∙ c .before .before .before .before .before .before .before .before .before .before .before .loop .inv .long0; long1 = c .before .before .before .before .before .before .before .step-cpu .kept .1 .1 .0 ∙ c .before .before .before .before .before .before .before .before .before .before .before .loop .inv .long1; going = go-on (c .before .before .before .before .before .before .before .before .before .before .before .loop .inv .going) (c .before .before .before .before .before .before .before .before .before .before .loop-test .taken) (rw (c .before .outcome .given .1) at (c .before .before .before .before .before .before .before .step-cpu .ensures)) }
-
-enum-known-outcome-2 : tie.Need-enum-known-outcome-2 Inv-loop μ-loop
-enum-known-outcome-2 c = search needs
-
-answered-requires : tie.Need-answered-requires Inv-loop μ-loop
-answered-requires c κs = search needs
 
 same-length : tie.Need-same-length Inv-loop μ-loop
 same-length c = c .before .before .before .before .before .before .before .before .step-cpu .kept .1 .0 ∙ c .before .before .before .before .before .before .before .before .before .before .before .before .loop .inv .long0
@@ -44,9 +29,6 @@ same-length-2 c = c .before .before .before .before .before .before .before .bef
 
 returns : tie.Need-returns Inv-loop μ-loop
 returns c = rw (c .answered .ensures) (stop-at (c .before .before .before .before .before .before .before .before .before .before .before .before .loop .inv .going) (c .before .before .before .before .before .before .before .before .before .before .before .loop-test .taken) (c .before .before .before .before .before .before .before .before .before .before .before .before .before .before .before .pre .1) (rw (c .before .before .outcome2 .given .1) at (c .before .before .before .before .before .before .before .before .step-cpu .ensures)))
-
-answered-requires-2 : tie.Need-answered-requires-2 Inv-loop μ-loop
-answered-requires-2 c κs = search needs
 
 same-length-3 : tie.Need-same-length-3 Inv-loop μ-loop
 same-length-3 c = c .before .before .loop .inv .long0
@@ -65,16 +47,16 @@ steps-of-spec =
     μ-loop
     loop-holds
     step-cpu-requires
-    enum-known-outcome
-    add-steps
-    loop-less
+    (λ c. search needs)
+    (λ c. omega arith)
+    (λ c. omega arith)
     loop-again
-    enum-known-outcome-2
-    answered-requires
+    (λ c. search needs)
+    (λ c κs. search needs)
     same-length
     same-length-2
     returns
-    answered-requires-2
+    (λ c κs. search needs)
     same-length-3
     same-length-4
     returns-2)

@@ -24,116 +24,23 @@ abbrev put-decimal-below : ℕ → In 1 put-decimal-kinds.ps
 put-decimal-below t =
     and 1 put-decimal-kinds.ps (falls 1 put-decimal-kinds.ps _<_ μ-put-decimal t) put-decimal.Pre
 
-put-decimal-cast-put : (t : ℕ) → put-decimal-lts.Need-cast-put (
-  put-reads.Asked,
-  put-reads.Learnt,
-  put-decimal-below t,
-  put-decimal.Post,
-) (put-decimal-at t) put-decimal.Post
-put-decimal-cast-put t c = omega arith
-
-put-decimal-add-put : (t : ℕ) → put-decimal-lts.Need-add-put (
-  put-reads.Asked,
-  put-reads.Learnt,
-  put-decimal-below t,
-  put-decimal.Post,
-) (put-decimal-at t) put-decimal.Post
-put-decimal-add-put t c = omega arith
-
-put-decimal-put-requires : (t : ℕ) → put-decimal-lts.Need-put-requires (
-  put-reads.Asked,
-  put-reads.Learnt,
-  put-decimal-below t,
-  put-decimal.Post,
-) (put-decimal-at t) put-decimal.Post
-put-decimal-put-requires t c κs = omega (arith, length-one (c .before .before .before .args .value) (omega arith))
-
-put-decimal-put-decimal-requires : (t : ℕ) → put-decimal-lts.Need-put-decimal-requires (
-  put-reads.Asked,
-  put-reads.Learnt,
-  put-decimal-below t,
-  put-decimal.Post,
-) (put-decimal-at t) put-decimal.Post
-put-decimal-put-decimal-requires t c κs = omega (arith, length-more (c .before .before .before .args .value) (omega arith) (omega arith))
-
-put-decimal-cast-put-2 : (t : ℕ) → put-decimal-lts.Need-cast-put-2 (
-  put-reads.Asked,
-  put-reads.Learnt,
-  put-decimal-below t,
-  put-decimal.Post,
-) (put-decimal-at t) put-decimal.Post
-put-decimal-cast-put-2 t c = omega arith
-
-put-decimal-add-put-2 : (t : ℕ) → put-decimal-lts.Need-add-put-2 (
-  put-reads.Asked,
-  put-reads.Learnt,
-  put-decimal-below t,
-  put-decimal.Post,
-) (put-decimal-at t) put-decimal.Post
-put-decimal-add-put-2 t c = omega arith
-
-put-decimal-put-requires-2 : (t : ℕ) → put-decimal-lts.Need-put-requires-2 (
-  put-reads.Asked,
-  put-reads.Learnt,
-  put-decimal-below t,
-  put-decimal.Post,
-) (put-decimal-at t) put-decimal.Post
-put-decimal-put-requires-2 t c κs =
-    let v = c .before .before .before .before .before .before .before .args .value in
-    let p = c .before .before .before .put-decimal .ensures in
-    omega (arith, p .next-is, put-length p, length-more v (omega arith) (omega arith))
-
-put-decimal-same-length : (t : ℕ) → put-decimal-lts.Need-same-length (
-  put-reads.Asked,
-  put-reads.Learnt,
-  put-decimal-below t,
-  put-decimal.Post,
-) (put-decimal-at t) put-decimal.Post
-put-decimal-same-length t c = put-length (c .before .before .put .ensures)
-
-put-decimal-returns : (t : ℕ) → put-decimal-lts.Need-returns (
-  put-reads.Asked,
-  put-reads.Learnt,
-  put-decimal-below t,
-  put-decimal.Post,
-) (put-decimal-at t) put-decimal.Post
-put-decimal-returns t c = rw (decimal-one (c .before .before .before .before .before .before .args .value) (omega arith)) (c .before .before .put .ensures)
-
-put-decimal-same-length-2 : (t : ℕ) → put-decimal-lts.Need-same-length-2 (
-  put-reads.Asked,
-  put-reads.Learnt,
-  put-decimal-below t,
-  put-decimal.Post,
-) (put-decimal-at t) put-decimal.Post
-put-decimal-same-length-2 t c = put-length (c .before .before .put2 .ensures) ∙ put-length (c .before .before .before .before .before .before .put-decimal .ensures)
-
-put-decimal-returns-2 : (t : ℕ) → put-decimal-lts.Need-returns-2 (
-  put-reads.Asked,
-  put-reads.Learnt,
-  put-decimal-below t,
-  put-decimal.Post,
-) (put-decimal-at t) put-decimal.Post
-put-decimal-returns-2 t c =
-    let v = c .before .before .before .before .before .before .before .before .before .before .args .value in
-    rw (decimal-more v (omega arith) (omega arith)) (put-then (c .before .before .before .before .before .before .put-decimal .ensures) (c .before .before .put2 .ensures))
-
 pub +put-decimal-spec : {M : Type 1} → statement M
-+put-decimal-spec = close μ-put-decimal λ t. put-decimal-lts.spec (
-  put-reads.Asked,
-  put-reads.Learnt,
-  put-decimal-below t,
-  put-decimal.Post,
-)
++put-decimal-spec = close μ-put-decimal λ t. put-decimal-lts.spec (put-reads.Asked, put-reads.Learnt, put-decimal-below t, put-decimal.Post)
     (put-decimal-at t)
     put-decimal.Post
-    (put-decimal-cast-put t)
-    (put-decimal-add-put t)
-    (put-decimal-put-requires t)
-    (put-decimal-put-decimal-requires t)
-    (put-decimal-cast-put-2 t)
-    (put-decimal-add-put-2 t)
-    (put-decimal-put-requires-2 t)
-    (put-decimal-same-length t)
-    (put-decimal-returns t)
-    (put-decimal-same-length-2 t)
-    (put-decimal-returns-2 t)
+    (λ c. omega arith)
+    (λ c. omega arith)
+    (λ c κs. omega (arith, length-one (c .before .before .before .args .value) (omega arith)))
+    (λ c κs. omega (arith, length-more (c .before .before .before .args .value) (omega arith) (omega arith)))
+    (λ c. omega arith)
+    (λ c. omega arith)
+    (λ c κs.
+    let v = c .before .before .before .before .before .before .before .args .value in
+    let p = c .before .before .before .put-decimal .ensures in
+    omega (arith, p .next-is, put-length p, length-more v (omega arith) (omega arith)))
+    (λ c. put-length (c .before .before .put .ensures))
+    (λ c. rw (decimal-one (c .before .before .before .before .before .before .args .value) (omega arith)) (c .before .before .put .ensures))
+    (λ c. put-length (c .before .before .put2 .ensures) ∙ put-length (c .before .before .before .before .before .before .put-decimal .ensures))
+    (λ c.
+    let v = c .before .before .before .before .before .before .before .before .before .before .args .value in
+    rw (decimal-more v (omega arith) (omega arith)) (put-then (c .before .before .before .before .before .before .put-decimal .ensures) (c .before .before .put2 .ensures)))

@@ -25,98 +25,21 @@ put-hex-at t = and 1 put-hex-kinds.ps (is 1 put-hex-kinds.ps μ-put-hex t) put-h
 abbrev put-hex-below : ℕ → In 1 put-hex-kinds.ps
 put-hex-below t = and 1 put-hex-kinds.ps (falls 1 put-hex-kinds.ps _<_ μ-put-hex t) put-hex.Pre
 
-put-hex-sub-put-hex : (t : ℕ) → put-hex-lts.Need-sub-put-hex (
-  put-hex-below t,
-  put-hex.Post,
-  hex-digit-reads.Asked,
-  hex-digit-reads.Learnt,
-  put-reads.Asked,
-  put-reads.Learnt,
-) (put-hex-at t) put-hex.Post
-put-hex-sub-put-hex t c = omega arith
-
-put-hex-put-hex-requires : (t : ℕ) → put-hex-lts.Need-put-hex-requires (
-  put-hex-below t,
-  put-hex.Post,
-  hex-digit-reads.Asked,
-  hex-digit-reads.Learnt,
-  put-reads.Asked,
-  put-reads.Learnt,
-) (put-hex-at t) put-hex.Post
-put-hex-put-hex-requires t c κs = omega arith
-
-put-hex-hex-digit-requires : (t : ℕ) → put-hex-lts.Need-hex-digit-requires (
-  put-hex-below t,
-  put-hex.Post,
-  hex-digit-reads.Asked,
-  hex-digit-reads.Learnt,
-  put-reads.Asked,
-  put-reads.Learnt,
-) (put-hex-at t) put-hex.Post
-put-hex-hex-digit-requires t c κs = omega arith
-
-put-hex-put-requires : (t : ℕ) → put-hex-lts.Need-put-requires (
-  put-hex-below t,
-  put-hex.Post,
-  hex-digit-reads.Asked,
-  hex-digit-reads.Learnt,
-  put-reads.Asked,
-  put-reads.Learnt,
-) (put-hex-at t) put-hex.Post
-put-hex-put-requires t c κs =
-    let a = c .before .before .before .before .before .before .before .before .args in
-    let p = c .before .before .before .before .put-hex .ensures in
-    omega (arith, p .next-is, put-length p, length-hex (a .digits - 1) (a .value / 16))
-
-put-hex-returns : (t : ℕ) → put-hex-lts.Need-returns (
-  put-hex-below t,
-  put-hex.Post,
-  hex-digit-reads.Asked,
-  hex-digit-reads.Learnt,
-  put-reads.Asked,
-  put-reads.Learnt,
-) (put-hex-at t) put-hex.Post
-unfolding hexOf
-put-hex-returns t c = rw (c .if1 .taken) (put-none (now (c .before .before .args .buffer)) (c .before .before .args .at))
-
-put-hex-same-length : (t : ℕ) → put-hex-lts.Need-same-length (
-  put-hex-below t,
-  put-hex.Post,
-  hex-digit-reads.Asked,
-  hex-digit-reads.Learnt,
-  put-reads.Asked,
-  put-reads.Learnt,
-) (put-hex-at t) put-hex.Post
-put-hex-same-length t c = put-length (c .before .before .put .ensures) ∙ put-length (c .before .before .before .before .before .before .before .put-hex .ensures)
-
-put-hex-returns-2 : (t : ℕ) → put-hex-lts.Need-returns-2 (
-  put-hex-below t,
-  put-hex.Post,
-  hex-digit-reads.Asked,
-  hex-digit-reads.Learnt,
-  put-reads.Asked,
-  put-reads.Learnt,
-) (put-hex-at t) put-hex.Post
-put-hex-returns-2 t c =
-    let a = c .before .before .before .before .before .before .before .before .before .before .before .args in
-    rw (hex-more (a .digits) (a .value) (c .before .before .before .before .before .before .before .before .before .if1 .left), ← c .before .before .before .before .hex-digit .ensures)
-    (put-then (c .before .before .before .before .before .before .before .put-hex .ensures) (c .before .before .put .ensures))
-
 pub +put-hex-spec : {M : Type 1} → statement M
-+put-hex-spec = close μ-put-hex λ t. put-hex-lts.spec (
-  put-hex-below t,
-  put-hex.Post,
-  hex-digit-reads.Asked,
-  hex-digit-reads.Learnt,
-  put-reads.Asked,
-  put-reads.Learnt,
-)
+unfolding hexOf
++put-hex-spec = close μ-put-hex λ t. put-hex-lts.spec (put-hex-below t, put-hex.Post, hex-digit-reads.Asked, hex-digit-reads.Learnt, put-reads.Asked, put-reads.Learnt)
     (put-hex-at t)
     put-hex.Post
-    (put-hex-sub-put-hex t)
-    (put-hex-put-hex-requires t)
-    (put-hex-hex-digit-requires t)
-    (put-hex-put-requires t)
-    (put-hex-returns t)
-    (put-hex-same-length t)
-    (put-hex-returns-2 t)
+    (λ c. omega arith)
+    (λ c κs. omega arith)
+    (λ c κs. omega arith)
+    (λ c κs.
+    let a = c .before .before .before .before .before .before .before .before .args in
+    let p = c .before .before .before .before .put-hex .ensures in
+    omega (arith, p .next-is, put-length p, length-hex (a .digits - 1) (a .value / 16)))
+    (λ c. rw (c .if1 .taken) (put-none (now (c .before .before .args .buffer)) (c .before .before .args .at)))
+    (λ c. put-length (c .before .before .put .ensures) ∙ put-length (c .before .before .before .before .before .before .before .put-hex .ensures))
+    (λ c.
+    let a = c .before .before .before .before .before .before .before .before .before .before .before .args in
+    rw (hex-more (a .digits) (a .value) (c .before .before .before .before .before .before .before .before .before .if1 .left), ← c .before .before .before .before .hex-digit .ensures)
+    (put-then (c .before .before .before .before .before .before .before .put-hex .ensures) (c .before .before .put .ensures)))

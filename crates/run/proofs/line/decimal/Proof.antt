@@ -15,11 +15,8 @@ put-requires c κs =
     let p = c .before .before .before .put-decimal .ensures in
     omega (arith, p .next-is, put-length p, length-decimal (a .value))
 
-same-length : tie.Need-same-length
-same-length c = search needs
-
 returns : tie.Need-returns
 returns c = put-then (c .before .before .before .before .before .before .put-decimal .ensures) (c .before .before .put .ensures)
 
 pub decimal-spec : {M : Type 1} → statement M
-decimal-spec = tie.close (tie.spec put-decimal-requires put-requires same-length returns)
+decimal-spec = tie.close (tie.spec put-decimal-requires put-requires (λ c. search needs) returns)

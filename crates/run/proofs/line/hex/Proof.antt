@@ -6,20 +6,14 @@ use borrow.Author.Needs.{needs}
 use Rattle.run.proofs.line.hex.Statement.{statement}
 use Rattle.run.proofs.line.hex.Tie as tie
 
-put-hex-requires : tie.Need-put-hex-requires
-put-hex-requires c κs = search needs
-
 put-requires : tie.Need-put-requires
 put-requires c κs =
     let a = c .before .before .before .before .before .before .args in
     let p = c .before .before .before .put-hex .ensures in
     omega (arith, p .next-is, put-length p, length-hex (a .digits) (a .value))
 
-same-length : tie.Need-same-length
-same-length c = search needs
-
 returns : tie.Need-returns
 returns c = put-then (c .before .before .before .before .before .before .put-hex .ensures) (c .before .before .put .ensures)
 
 pub hex-spec : {M : Type 1} → statement M
-hex-spec = tie.close (tie.spec put-hex-requires put-requires same-length returns)
+hex-spec = tie.close (tie.spec (λ c κs. search needs) put-requires (λ c. search needs) returns)

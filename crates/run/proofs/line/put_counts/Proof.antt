@@ -8,9 +8,6 @@ use borrow.Author.Needs.{needs}
 use Rattle.run.proofs.line.put_counts.Statement.{statement}
 use Rattle.run.proofs.line.put_counts.Tie as tie
 
-decimal-requires : tie.Need-decimal-requires
-decimal-requires c κs = search needs
-
 decimal-requires-2 : tie.Need-decimal-requires-2
 decimal-requires-2 c κs =
     let a = c .before .before .before .before .before .before .args in
@@ -24,12 +21,9 @@ decimal-requires-3 c κs =
     let p2 = c .before .before .before .decimal2 .ensures in
     omega (arith, decimal-next (a .number) space p1, put-length p1, decimal-next (a .steps) space p2, put-length p2)
 
-same-length : tie.Need-same-length
-same-length c = search needs
-
 returns : tie.Need-returns
 returns c = simp append-assoc at (put-then (put-then (c .before .before .before .before .before .before .before .before .before .before .decimal .ensures) (c .before .before .before .before .before .before .decimal2 .ensures)) (c .before .before .decimal3 .ensures))
 
 pub put-counts-spec : {M : Type 1} → statement M
 put-counts-spec =
-    tie.close (tie.spec decimal-requires decimal-requires-2 decimal-requires-3 same-length returns)
+    tie.close (tie.spec (λ c κs. search needs) decimal-requires-2 decimal-requires-3 (λ c. search needs) returns)

@@ -8,9 +8,6 @@ use borrow.Author.Needs.{needs}
 use Rattle.run.proofs.line.put_line.Statement.{statement}
 use Rattle.run.proofs.line.put_line.Tie as tie
 
-put-counts-requires : tie.Need-put-counts-requires
-put-counts-requires c κs = search needs
-
 put-registers-requires : tie.Need-put-registers-requires
 put-registers-requires c κs =
     let a = c .before .before .before .before .before .before .args in
@@ -23,9 +20,6 @@ put-counters-requires c κs =
     let p1 = c .before .before .before .before .before .before .before .put-counts .ensures in
     let p2 = c .before .before .before .put-registers .ensures in
     omega (arith, counts-next (a .number) (a .steps) (a .states) p1, put-length p1, registers-next (a .cpu) p2, put-length p2)
-
-same-length : tie.Need-same-length
-same-length c = search needs
 
 returns : tie.Need-returns
 unfolding lineOf
@@ -40,4 +34,4 @@ returns c =
 pub put-line-spec : {M : Type 1} → statement M
 put-line-spec =
     tie.close
-    (tie.spec put-counts-requires put-registers-requires put-counters-requires same-length returns)
+    (tie.spec (λ c κs. search needs) put-registers-requires put-counters-requires (λ c. search needs) returns)

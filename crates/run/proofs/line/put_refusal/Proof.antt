@@ -8,17 +8,11 @@ use borrow.Author.Needs.{needs}
 use Rattle.run.proofs.line.put_refusal.Statement.{statement}
 use Rattle.run.proofs.line.put_refusal.Tie as tie
 
-decimal-requires : tie.Need-decimal-requires
-decimal-requires c κs = search needs
-
 decimal-requires-2 : tie.Need-decimal-requires-2
 decimal-requires-2 c κs =
     let a = c .before .before .before .before .before .before .args in
     let p1 = c .before .before .before .decimal .ensures in
     omega (arith, decimal-next (a .number) space p1, put-length p1)
-
-same-length : tie.Need-same-length
-same-length c = search needs
 
 returns : tie.Need-returns
 unfolding refusalLineOf
@@ -29,4 +23,4 @@ returns c =
     printed (simp append-assoc at (put-then p1 p2)) (omega (arith, decimal-next (a .number) space p1, decimal-next (a .offset) newline p2))
 
 pub put-refusal-spec : {M : Type 1} → statement M
-put-refusal-spec = tie.close (tie.spec decimal-requires decimal-requires-2 same-length returns)
+put-refusal-spec = tie.close (tie.spec (λ c κs. search needs) decimal-requires-2 (λ c. search needs) returns)

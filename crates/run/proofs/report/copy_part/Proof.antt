@@ -14,29 +14,8 @@ Inv-loop bytes at page₀ len i₀ page i = (i ≤ len) × (length page ≡ leng
 abbrev μ-loop : tie.MeasureT-loop
 μ-loop bytes at page₀ len i₀ page i = len - i
 
-loop-holds : tie.Need-loop-holds Inv-loop μ-loop
-loop-holds c = search needs
-
-add-page : tie.Need-add-page Inv-loop μ-loop
-add-page c = search needs
-
-shared-slice-read-page : tie.Need-shared-slice-read-page Inv-loop μ-loop
-shared-slice-read-page c = search needs
-
-slice-write-page : tie.Need-slice-write-page Inv-loop μ-loop
-slice-write-page c = search needs
-
-add-i : tie.Need-add-i Inv-loop μ-loop
-add-i c = search needs
-
-loop-less : tie.Need-loop-less Inv-loop μ-loop
-loop-less c = search needs
-
 loop-again : tie.Need-loop-again Inv-loop μ-loop
 loop-again c = (omega arith, simp length-set (c .before .before .loop .inv .1), copied _ (c .before .before .before .args .bytes .now) (c .before .before .before .args .at) (c .before .before .loop .i) (omega arith) (omega arith) (c .before .before .loop .inv .2))
-
-same-length : tie.Need-same-length Inv-loop μ-loop
-same-length c = search needs
 
 returns : tie.Need-returns Inv-loop μ-loop
 returns c = rw (end (c .before .loop .inv .0) (c .loop-test .left)) (c .before .loop .inv .2)
@@ -47,12 +26,12 @@ copy-part-spec =
     (tie.spec
     Inv-loop
     μ-loop
-    loop-holds
-    add-page
-    shared-slice-read-page
-    slice-write-page
-    add-i
-    loop-less
+    (λ c. search needs)
+    (λ c. search needs)
+    (λ c. search needs)
+    (λ c. search needs)
+    (λ c. search needs)
+    (λ c. search needs)
     loop-again
-    same-length
+    (λ c. search needs)
     returns)

@@ -3,29 +3,8 @@ use borrow.Author.Needs.{needs}
 use Rattle.run.proofs.report.report.Statement.{statement}
 use Rattle.run.proofs.report.report.Tie as tie
 
-read-campaign-requires : tie.Need-read-campaign-requires
-read-campaign-requires c κs = search needs
-
-enum-known-read : tie.Need-enum-known-read
-enum-known-read c = search needs
-
 answer-of-requires : tie.Need-answer-of-requires
 answer-of-requires c κs = let w = file-within _ (c .before .before .before .read-campaign .ensures) (c .before .read .given .1) in ((w .first .inside, w .first .short), (w .second .inside, w .second .short))
-
-told-line-requires : tie.Need-told-line-requires
-told-line-requires c κs = search needs
-
-enum-known-read-2 : tie.Need-enum-known-read-2
-enum-known-read-2 c = search needs
-
-number-requires : tie.Need-number-requires
-number-requires c κs = search needs
-
-offset-requires : tie.Need-offset-requires
-offset-requires c κs = search needs
-
-refusal-line-requires : tie.Need-refusal-line-requires
-refusal-line-requires c κs = search needs
 
 returns : tie.Need-returns
 returns c = rw (report-read _ (c .before .before .before .before .before .before .read-campaign .ensures) (c .before .before .before .before .read .given .1)) (rw (c .before .before .answer-of .ensures) at (c .told-line .ensures))
@@ -37,13 +16,13 @@ pub report-spec : {M : Type 1} → statement M
 report-spec =
     tie.close
     (tie.spec
-    read-campaign-requires
-    enum-known-read
+    (λ c κs. search needs)
+    (λ c. search needs)
     answer-of-requires
-    told-line-requires
-    enum-known-read-2
-    number-requires
-    offset-requires
-    refusal-line-requires
+    (λ c κs. search needs)
+    (λ c. search needs)
+    (λ c κs. search needs)
+    (λ c κs. search needs)
+    (λ c κs. search needs)
     returns
     returns-2)

@@ -4,26 +4,11 @@ use borrow.Author.Needs.{needs}
 use Rattle.run.proofs.report.run_parts.Statement.{statement}
 use Rattle.run.proofs.report.run_parts.Tie as tie
 
-slice-relend-prefix-run : tie.Need-slice-relend-prefix-run
-slice-relend-prefix-run c = search needs
-
 slice-aggregate-run : tie.Need-slice-aggregate-run
 slice-aggregate-run c = sym (length-take-le (c .before .before .before .args .len0) (c .before .before .before .args .page0 .now) (c .before .before .before .pre .0))
 
-slice-relend-prefix-run-2 : tie.Need-slice-relend-prefix-run-2
-slice-relend-prefix-run-2 c = search needs
-
 slice-aggregate-run-2 : tie.Need-slice-aggregate-run-2
 slice-aggregate-run-2 c = sym (length-take-le (c .before .before .before .before .args .len1) (c .before .before .before .before .args .page1 .now) (c .before .before .before .before .pre .1))
-
-run-requires : tie.Need-run-requires
-run-requires c κs = search needs
-
-same-length : tie.Need-same-length
-same-length c = search needs
-
-same-length-2 : tie.Need-same-length-2
-same-length-2 c = search needs
 
 returns : tie.Need-returns
 returns c = c .before .before .before .before .run .ensures .told
@@ -32,11 +17,11 @@ pub run-parts-spec : {M : Type 1} → statement M
 run-parts-spec =
     tie.close
     (tie.spec
-    slice-relend-prefix-run
+    (λ c. search needs)
     slice-aggregate-run
-    slice-relend-prefix-run-2
+    (λ c. search needs)
     slice-aggregate-run-2
-    run-requires
-    same-length
-    same-length-2
+    (λ c κs. search needs)
+    (λ c. search needs)
+    (λ c. search needs)
     returns)

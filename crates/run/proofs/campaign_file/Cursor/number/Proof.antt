@@ -28,14 +28,8 @@ returns c =
     let l = c .before .before .loop in
     ap numberAnswer (sym (number-ends (a .bytes .now) (a .self .at) (l .at) (l .weight) (l .value) (l .inv) (a .greatest) (c .if1 .taken)))
 
-shared-slice-read-wide : tie.Need-shared-slice-read-wide Inv-loop μ-loop
-shared-slice-read-wide c = omega arith
-
 wide-requires : tie.Need-wide-requires Inv-loop μ-loop
 wide-requires c κs = tt
-
-add-judge : tie.Need-add-judge Inv-loop μ-loop
-add-judge c = omega arith
 
 mul-judge : tie.Need-mul-judge Inv-loop μ-loop
 mul-judge c =
@@ -81,12 +75,6 @@ mul-weight c =
     let small : l .weight ≤ 2 ^ 56 = weight-small (l .inv .count) (l .weight) (l .inv .weight-is) (omega (arith, l .inv .at-is)) in
     omega arith
 
-add-at : tie.Need-add-at Inv-loop μ-loop
-add-at c = omega arith
-
-loop-less : tie.Need-loop-less Inv-loop μ-loop
-loop-less c = omega arith
-
 loop-again : tie.Need-loop-again Inv-loop μ-loop
 loop-again c =
     let a = c .before .before .before .before .before .before .before .args in
@@ -101,12 +89,6 @@ returns-3 c =
     let a = c .before .before .before .before .args in
     let l = c .before .before .loop in
     ap numberAnswer (sym (number-ends (a .bytes .now) (a .self .at) (l .at) (l .weight) (l .value) (l .inv) (a .greatest) (c .if3 .taken)))
-
-shared-slice-read-if4 : tie.Need-shared-slice-read-if4 Inv-loop μ-loop
-shared-slice-read-if4 c = omega arith
-
-add-judge-3 : tie.Need-add-judge-3 Inv-loop μ-loop
-add-judge-3 c = omega arith
 
 add-judge-4 : tie.Need-add-judge-4 Inv-loop μ-loop
 add-judge-4 c =
@@ -145,9 +127,9 @@ number-spec =
     loop-holds
     sub-loop
     returns
-    shared-slice-read-wide
+    (λ c. omega arith)
     wide-requires
-    add-judge
+    (λ c. omega arith)
     mul-judge
     add-judge-2
     judge-requires
@@ -155,12 +137,12 @@ number-spec =
     mul-value
     add-value
     mul-weight
-    add-at
-    loop-less
+    (λ c. omega arith)
+    (λ c. omega arith)
     loop-again
     returns-3
-    shared-slice-read-if4
-    add-judge-3
+    (λ c. omega arith)
+    (λ c. omega arith)
     add-judge-4
     judge-requires-2
     returns-4

@@ -6,17 +6,5 @@ use Rattle.run.specs.CampaignFile.{settingsStop}
 use Rattle.run.proofs.campaign_file.SettingsRead.stop.Statement.{statement}
 use Rattle.run.proofs.campaign_file.SettingsRead.stop.Tie as tie
 
-enum-known-self : tie.Need-enum-known-self
-enum-known-self c = search needs
-
-enum-known-self-2 : tie.Need-enum-known-self-2
-enum-known-self-2 c = search needs
-
-returns : tie.Need-returns
-returns c = search needs
-
-returns-2 : tie.Need-returns-2
-returns-2 c = ap settingsStop (sym (c .before .self2 .given .1))
-
 pub stop-spec : {M : Type 1} → statement M
-stop-spec = tie.close (tie.spec enum-known-self enum-known-self-2 returns returns-2)
+stop-spec = tie.close (tie.spec (λ c. search needs) (λ c. search needs) (λ c. search needs) (λ c. ap settingsStop (sym (c .before .self2 .given .1))))

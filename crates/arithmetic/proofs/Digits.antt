@@ -1,14 +1,14 @@
 -- The digit laws of DCA and DCS: 40,000 sums that antt computes, and what they say of valid digits.
 use mathlib.Core.Bool.{Bool, true, false}
-use mathlib.Core.Path.{_≡_, refl, sym}
-use Prim.Native.Nat.{ℕ, _<_, _≤_, _+_, _-_, _*_, _/_, _%_}
+use mathlib.Core.Path.{_≡_, sym}
+use Prim.Native.Nat.{ℕ, _<_, _+_, _-_, _*_, _/_, _%_}
 use lib.Dec.{T, eqb, eqb→eq, leb, leb→le}
 use native.Mathlib.Omega.{arith}
 use borrow.Author.Tests.{le-leb, lt-leb}
 use Rattle.arithmetic.specs.declared.Sum.{Sum}
-use Rattle.arithmetic.specs.Flags.{CF, HF, bitOf, hasFlag}
+use Rattle.arithmetic.specs.Flags.{CF, bitOf, hasFlag}
 use Rattle.arithmetic.specs.Sums.{total, addOf, inverted}
-use Rattle.arithmetic.specs.Decimal.{adjust, decimalOf, dcaSum, dcsSum, Digits, valueOf, carryBit, DcaDigits, DcsDigits}
+use Rattle.arithmetic.specs.Decimal.{adjust, decimalOf, dcaSum, dcsSum, Digits, valueOf, DcaDigits, DcsDigits}
 use Rattle.arithmetic.proofs.Compute.{both, both-left, both-right, either, at-bool, every, at}
 use Rattle.arithmetic.proofs.Flags.{add-flags}
 

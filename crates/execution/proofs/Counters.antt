@@ -1,7 +1,7 @@
 -- TM and the ticks over an instruction and over an interrupt's entry.
 use mathlib.Core.Path.{_≡_, refl}
 use mathlib.Core.Bool.{Bool, true, false, not, cond}
-use Prim.Native.Nat.{ℕ, _+_, _-_, _/_, _%_, _^_, _<_}
+use Prim.Native.Nat.{ℕ, _+_, _-_, _%_, _^_, _<_}
 use native.Mathlib.Omega.{arith}
 use lib.Dec.{eqb}
 use Rattle.arithmetic.specs.declared.record.Lh5801.{Lh5801}
@@ -10,7 +10,7 @@ use Rattle.arithmetic.specs.Sums.{adcOf, sbcOf, cpaOf}
 use Rattle.arithmetic.specs.Decimal.{dcaOf, dcsOf}
 use Rattle.arithmetic.specs.Logic.{ldaOf, andOf, oraOf, eorOf, bitTestOf, ttaOf}
 use Rattle.arithmetic.specs.Shifts.{leftOf, rightOf, lopOf as loopedOf}
-use Rattle.pages.specs.Prog.{Prog, done, _>>=_, read, write}
+use Rattle.pages.specs.Prog.{done, _>>=_, read, write}
 use Rattle.pages.specs.Stack.{up16, readopOf, readopWordOf, mem16Of, pushOf, pushWordOf, popOf, popWordOf, pushStateOf, entryOf}
 use Rattle.pages.specs.Timer.{addStateOf}
 use Rattle.pages.specs.Pages.{Pages}
@@ -24,7 +24,6 @@ use Rattle.execution.specs.declared.places.Place.{Place}
 use Rattle.execution.specs.declared.places.Place.the-variants.{Half as HalfAt, Pointer, Fixed, InCode}
 use Rattle.execution.specs.declared.instructions.Operation.{Operation}
 use Rattle.execution.specs.declared.instructions.Operation.the-variants.{Sbc, Adc, Lda, Cpa, And, Ora, Dcs, Dca, Eor, Bit}
-use Rattle.execution.specs.declared.instructions.Change.{Change}
 use Rattle.execution.specs.declared.instructions.Condition.{Condition}
 use Rattle.execution.specs.declared.instructions.Word.{Word}
 use Rattle.execution.specs.declared.instructions.Word.the-variants.{Of, S, P}
@@ -34,7 +33,7 @@ use Rattle.execution.specs.declared.instructions.Signal.{Signal}
 use Rattle.execution.specs.declared.instructions.Signal.the-variants.{Pu, Pv, Disp, Carry as CarryFlag, InterruptEnable}
 use Rattle.execution.specs.declared.instructions.Instruction.{Instruction}
 use Rattle.execution.specs.declared.instructions.Instruction.the-variants.{Alu, Sta, Memory, Bii, Drr, Drl, Load, Compare, Inc, Dec, IncWord, DecWord, Sin, Sde, Lin, Lde, Branch, Lop, VectorIf, Vector, Jmp, Sjp, Rtn, Rti, LoadS, Tin, Cin, Accumulator as OnA, Signal as Sets, PopWord, PushWord, PopA, PushA, ToX, FromX, DropWord, Adr, Off, Hlt, Cdv, Nop}
-use Rattle.execution.specs.Places.{wordIn, withWord, halfIn, withHalf, locateOf, operandOf}
+use Rattle.execution.specs.Places.{withWord, withHalf, locateOf, operandOf}
 use Rattle.execution.specs.Instructions.{operated, aluOf, storeOf, staOf, memoryOf, biiOf, drrOf, drlOf, loadOf, compareOf, incHalfOf, decHalfOf, incWordOf, decWordOf, storeAtOf, loadAtOf, sinOf, sdeOf, linOf, ldeOf, holdsOf, branchedOf, branchOf, lopOf, vectorOf, vectorIfOf, jmpOf, sjpOf, rtnOf, rtiOf, loadSOf, tinOf, cinOf, onAOf, signalOf, popToOf, pushFromOf, toXOf, fromXOf, adrInOf, cdvOf, dropWordOf, executeOf}
 use Rattle.execution.specs.States.{amount, branch, addedOf}
 use Rattle.execution.specs.Counters.{Counted}

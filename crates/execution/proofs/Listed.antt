@@ -1,5 +1,5 @@
 -- Which bytes are listed, and the bounds of the states: each a test computed over a whole page.
-use Prim.Native.Nat.{ℕ, _+_, _/_, _%_, _<_, _≤_}
+use Prim.Native.Nat.{ℕ, _+_, _/_, _%_, _≤_}
 use native.Mathlib.Omega.{arith}
 use borrow.Author.Tests.{ltb-true, ltb-false}
 use mathlib.Core.Bool.{Bool, true, false, not}

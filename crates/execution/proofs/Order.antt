@@ -1,5 +1,5 @@
 -- The code's way through a step is the definition's: one test before the instruction, and the slow path behind it.
-use Prim.Native.Nat.{ℕ, _+_, _<_}
+use Prim.Native.Nat.{ℕ, _+_}
 use mathlib.Core.Bool.{Bool, true, false, _&&_, _||_, cond}
 use mathlib.Core.Path.{_≡_, refl, sym, ap, subst, _∙_}
 use Rattle.arithmetic.specs.declared.record.Lh5801.{Lh5801}
@@ -22,7 +22,7 @@ use Rattle.execution.specs.declared.Outcome.{Outcome}
 use Rattle.execution.specs.declared.Outcome.the-variants.{Completed, Stopped}
 use Rattle.execution.specs.Instructions.{branchedOf, executeOf}
 use Rattle.execution.specs.States.{addedOf}
-use Rattle.execution.specs.Step.{Kind, off, frozen, entry, instruction, StepEnd, did, stopped, outcomeOf, fetchOf, decodedBy, unlistedBy, obeyOf, instructionOf, enteredOf, reachedOf, poweredOf, stepOf, heldOf, timed}
+use Rattle.execution.specs.Step.{off, frozen, entry, instruction, did, stopped, outcomeOf, fetchOf, decodedBy, unlistedBy, obeyOf, instructionOf, enteredOf, reachedOf, poweredOf, stepOf, heldOf, timed}
 
 -- a choice by a test that is known. (`rw` with the test would change the record's field too)
 pub chosen-first : {A : Type 0} {b : Bool} (x y : A) → b ≡ true → cond b x y ≡ x

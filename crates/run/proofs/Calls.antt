@@ -6,12 +6,11 @@ use Prim.Native.Nat.{ℕ, _*_, _<_, _≤_}
 use native.Mathlib.Omega.{arith}
 use Rattle.arithmetic.specs.declared.record.Lh5801.{Lh5801}
 use Rattle.pages.specs.Pages.{Pages}
-use Rattle.pages.specs.Prog.{exec}
 use Rattle.pages.specs.Written.{Write, Written}
 use Rattle.pages.proofs.Exec.{written-none}
 use Rattle.execution.specs.declared.Stop.{Stop}
 use Rattle.execution.proofs.StepStates.{step-states}
-use Rattle.execution.specs.Step.{Kind, did, stopped, stepOf}
+use Rattle.execution.specs.Step.{stopped}
 use Rattle.run.specs.declared.Settings.{Settings}
 use Rattle.run.specs.declared.End.the-variants.{AllSteps, Step}
 use Rattle.run.specs.Entry.{endNumber, Accepted}

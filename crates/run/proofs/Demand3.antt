@@ -7,10 +7,8 @@ use native.Mathlib.Nat.{add-zero}
 use native.Mathlib.Omega.{arith}
 use Rattle.arithmetic.specs.declared.record.Lh5801.{Lh5801}
 use Rattle.pages.specs.Pages.{Pages, SameLength}
-use Rattle.pages.specs.Prog.{exec}
 use Rattle.pages.specs.Written.{Written}
 use Rattle.execution.proofs.StepKeeps.{step-small}
-use Rattle.execution.specs.Step.{Kind, did, stepOf}
 use Rattle.run.specs.declared.Settings.{Settings}
 use Rattle.run.specs.Entry.{Accepted}
 use Rattle.run.specs.Run.{Outcome, noStep, completed, runOf, settings, callsOf}

@@ -1,5 +1,5 @@
 -- What the loop of a call keeps, and how a step, a stop and the limit go on from it.
-use Prim.Native.Nat.{ℕ, suc, _+_, _-_, _*_, _%_, _^_, _<_, _≤_}
+use Prim.Native.Nat.{ℕ, _+_, _-_, _*_, _%_, _^_, _<_, _≤_}
 use native.Mathlib.Omega.{arith}
 use native.Mathlib.Numerals.{add-one}
 use mathlib.Core.List.{List, [], _++_}
@@ -7,7 +7,7 @@ use mathlib.Core.Path.{_≡_, refl, sym, ap, subst, _∙_}
 use Rattle.arithmetic.specs.declared.record.Lh5801.{Lh5801}
 use lib.ListN.{length}
 use Rattle.pages.specs.Pages.{Pages, pages}
-use Rattle.pages.specs.Prog.{Prog, done, mapped, exec}
+use Rattle.pages.specs.Prog.{done, mapped, exec}
 use Rattle.pages.specs.Contract.{Does}
 use Rattle.pages.specs.Written.{Write, writes}
 use Rattle.pages.proofs.Exec.{bind-answer, bind-pages}

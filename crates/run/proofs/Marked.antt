@@ -1,7 +1,6 @@
 -- The thirteen marked cases hold: by computation, from the definitions of a step, of the timer's shift, and of a campaign file's line.
-use Prim.Native.Nat.{ℕ}
 use mathlib.Core.Path.{_≡_, refl}
-use mathlib.Core.List.{List, [], _∷_, map}
+use mathlib.Core.List.{[], _∷_, map}
 use Rattle.arithmetic.specs.Record.{with-a, with-t, with-u, with-p, with-tm, with-is-timer-reached, with-timer-state, with-ticks}
 use Rattle.arithmetic.specs.Flags.{withFlags}
 use Rattle.arithmetic.specs.Sums.{addOf}
@@ -21,7 +20,7 @@ use Rattle.run.specs.Run.{noStep, completed, onward, runOf, enteredOf, c
 use Rattle.run.specs.CampaignFile.{numberOf, registersOf, wordsOf, timingOf, settingsOf, bytesOf, pageOf, cpuOf, ended, campaignOf}
 use Rattle.run.specs.CampaignFile.{flagsOf}
 use Rattle.run.specs.Line.{decimalOf, hexOf, lineOf}
-use Rattle.run.specs.Marked.{Told, shiftsOf, toldOf, MarkedCase, markedCases}
+use Rattle.run.specs.Marked.{shiftsOf, toldOf, MarkedCase, markedCases}
 use Rattle.run.specs.Report.{reportOf}
 
 pub marked-cases-hold : map (λ (c : MarkedCase). toldOf (c .asked)) markedCases ≡ map (λ (c : MarkedCase). c .expected) markedCases

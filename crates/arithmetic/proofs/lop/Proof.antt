@@ -1,4 +1,3 @@
-use native.Mathlib.Omega.{arith}
 use Rattle.arithmetic.proofs.Bytes.{lop-over, lop-again}
 use borrow.Author.Needs.{needs}
 use Rattle.arithmetic.proofs.lop.Statement.{statement}

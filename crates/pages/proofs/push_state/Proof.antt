@@ -1,4 +1,4 @@
-use Rattle.pages.proofs.Does.{does-then, does-done}
+use Rattle.pages.proofs.Does.{does-then}
 use Rattle.pages.specs.Stack.{pushStateOf}
 use borrow.Author.Needs.{needs}
 use Rattle.pages.proofs.push_state.Statement.{statement}

@@ -1,4 +1,4 @@
-use Rattle.pages.proofs.Does.{does-then, does-done}
+use Rattle.pages.proofs.Does.{does-done}
 use mathlib.Core.Path.{refl}
 use Rattle.execution.specs.Instructions.{staOf}
 use borrow.Author.Needs.{needs}

@@ -1,5 +1,4 @@
 pub mod Operands
-pub mod Arms
 pub mod Table
 pub mod Listed
 pub mod Order

@@ -4,11 +4,10 @@ use native.Mathlib.Omega.{arith}
 use mathlib.Core.Bool.{Bool, true}
 use mathlib.Core.List.{List, [], _∷_}
 use mathlib.Core.Path.{_≡_, refl, sym, ap, _∙_}
-use lib.Dec.{T, leb, leb→le}
-use lib.ListN.{getD, length, List·getD-eq-default}
-use Rattle.arithmetic.proofs.Rows.{default}
+use lib.Dec.{T, leb, leb→le, ltb, ltb→lt}
+use lib.ListN.{getD, length, replicate, List·getD-eq-default}
+use Rattle.arithmetic.proofs.Rows.{Rest, clear, default}
 use Rattle.arithmetic.proofs.Compute.{both, both-left, both-right}
-use Rattle.execution.specs.declared.instructions.Instruction.{Instruction}
 use Rattle.execution.specs.declared.instructions.Decoded.{Decoded}
 use Rattle.execution.specs.declared.instructions.Decoded.the-variants.{Listed, Unlisted}
 use Rattle.execution.specs.Chain.{chained, orElse, column}
@@ -63,19 +62,29 @@ table rows s f byte h =
     let e : byte ≡ 16 * (0 + byte / 16) + byte % 16 = omega arith in
     ap (λ (b : ℕ). chained rows 0 b) e ∙ found rows 0 (byte / 16) (byte % 16) s (omega arith) (omega arith) (omega arith)
 
--- a function of the chain, where its row lists the byte
-pub listed : (row : List Decoded) (rest : List (List Decoded)) (i byte col : ℕ) {n : ℕ} {what : Instruction} {d : Decoded}
-    → d ≡ getD row col Unlisted → col ≡ column i byte → d ≡ Listed what n → Listed what n ≡ chained (row ∷ rest) i byte
-unfolding chained
-listed row rest i byte col e c l =
-    ap (λ (x : Decoded). orElse x (chained rest (suc i) byte)) (sym l ∙ e ∙ ap (λ (k : ℕ). getD row k Unlisted) c)
+-- the keys of row i, by its columns
+abbrev pub keys : ℕ → List ℕ → List ℕ
+keys i [] = []
+keys i (k ∷ ks) = (16 * i + k) ∷ keys i ks
 
--- and where it does not
-pub next : (row : List Decoded) (rest : List (List Decoded)) (i byte col : ℕ) {d e : Decoded}
-    → d ≡ getD row col Unlisted → col ≡ column i byte → d ≡ Unlisted → e ≡ chained rest (suc i) byte → e ≡ chained (row ∷ rest) i byte
+abbrev pub columns : List ℕ → Bool
+columns [] = true
+columns (k ∷ ks) = both (ltb k 16) (columns ks)
+
+-- a byte that is none of the keys is, counted from row i, none of the columns
+counted : (i byte : ℕ) → i < 16 → byte < 256 → (ks : List ℕ) → T (columns ks) → Rest byte (keys i ks) → Rest (column i byte) ks
+counted i byte hi hb [] s r = tt
+counted i byte hi hb (k ∷ ks) s r =
+    let small : k < 16 = ltb→lt k 16 (both-left (ltb k 16) (columns ks) s) in
+    (counted i byte hi hb ks (both-right (ltb k 16) (columns ks) s) (r .0), λ e. r .1 (omega (arith, e)))
+
+-- a row's last arm: what the row does not list is what the rows after it have
+pub passed-over : (row : List Decoded) (rest : List (List Decoded)) (i : ℕ) (ks : List ℕ) (byte : ℕ) {e : Decoded}
+    → i < 16 → byte < 256 → T (columns ks) → clear Unlisted row ks ≡ replicate 16 Unlisted → Rest byte (keys i ks)
+    → e ≡ chained rest (suc i) byte → e ≡ chained (row ∷ rest) i byte
 unfolding chained
-next row rest i byte col f c u e =
-    e ∙ ap (λ (x : Decoded). orElse x (chained rest (suc i) byte)) (sym u ∙ f ∙ ap (λ (k : ℕ). getD row k Unlisted) c)
+passed-over row rest i ks byte hi hb s f r e =
+    e ∙ ap (λ (x : Decoded). orElse x (chained rest (suc i) byte)) (default Unlisted row ks 16 (column i byte) f (counted i byte hi hb ks s r))
 
 -- after the last row
 pub nothing : (i byte : ℕ) → Unlisted ≡ chained [] i byte

@@ -8,7 +8,7 @@ use Rattle.execution.proofs.opcodes.decode.Tie as tie
 
 returns : tie.Need-returns
 unfolding decoded
-returns c = c .from-0 .ensures ∙ table rows tt (omega arith) (c .before .args .byte) (omega arith)
+returns c = c .row-0 .ensures ∙ table rows tt (omega arith) (c .before .args .byte) (omega arith)
 
 pub decode-spec : {M : Type 1} → statement M
 decode-spec = tie.close (tie.spec (λ c κs. search needs) returns)

@@ -1,13 +1,20 @@
 use mathlib.Core.List.{[], _∷_}
 use mathlib.Core.Path.{refl}
-use Rattle.execution.specs.declared.instructions.Decoded.the-variants.{Unlisted}
-use Rattle.execution.specs.Opcodes.{row3}
-use Rattle.arithmetic.proofs.Rows.{default}
+use native.Mathlib.Omega.{arith}
+use lib.ListN.{getD, drop}
+use Rattle.execution.specs.Chain.{chained}
+use Rattle.execution.specs.Opcodes.{rows}
+use Rattle.execution.proofs.Table.{passed-over}
+use borrow.Author.Needs.{needs}
 use Rattle.execution.proofs.opcodes.row_3.Statement.{statement}
 use Rattle.execution.proofs.opcodes.row_3.Tie as tie
 
-returns-6 : tie.Need-returns-6
-returns-6 c = default Unlisted row3 (8 ∷ 6 ∷ 4 ∷ 2 ∷ 0 ∷ []) 16 (c .before .args .col) refl (c .match .rest)
+unlisted : tie.Need-returns-6
+unlisted c = passed-over (getD rows 3 []) (drop 4 rows) 3 (8 ∷ 6 ∷ 4 ∷ 2 ∷ 0 ∷ []) (c .before .before .args .byte) (omega arith) (omega arith) tt refl (c .before .match .rest) (c .row-4 .ensures)
 
 pub row-3-spec : {M : Type 1} → statement M
-row-3-spec = tie.close (tie.spec (λ c. rw (c .match .keys1)) (λ c. rw (c .match .keys2)) (λ c. rw (c .match .keys3)) (λ c. rw (c .match .keys4)) (λ c. rw (c .match .keys5)) returns-6)
+unfolding chained
+row-3-spec =
+    tie.close
+    (tie.spec (λ c κs. search needs) (λ c. rw (c .match .keys1)) (λ c. rw (c .match .keys2)) (λ c. rw (c .match .keys3))
+    (λ c. rw (c .match .keys4)) (λ c. rw (c .match .keys5)) unlisted)

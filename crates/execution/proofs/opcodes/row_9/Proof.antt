@@ -1,16 +1,22 @@
 use mathlib.Core.List.{[], _∷_}
-use mathlib.Core.Path.{refl, _∙_}
-use mathlib.Core.Bool.{false}
-use Rattle.execution.specs.declared.places.Register.the-variants.{Y}
-use Rattle.execution.specs.declared.instructions.Decoded.the-variants.{Unlisted}
-use Rattle.execution.specs.Opcodes.{branches, row9}
-use Rattle.execution.proofs.Arms.{other}
+use mathlib.Core.Path.{refl}
+use native.Mathlib.Omega.{arith}
+use lib.ListN.{getD, drop}
+use Rattle.execution.specs.Chain.{chained}
+use Rattle.execution.specs.Opcodes.{rows}
+use Rattle.execution.proofs.Table.{passed-over}
 use borrow.Author.Needs.{needs}
 use Rattle.execution.proofs.opcodes.row_9.Statement.{statement}
 use Rattle.execution.proofs.opcodes.row_9.Tie as tie
 
-returns-3 : tie.Need-returns-3
-returns-3 c = c .row-branches .ensures ∙ other Unlisted row9 (branches false Y Unlisted Unlisted) (10 ∷ 8 ∷ []) (c .before .before .args .col) refl (c .before .match .rest)
+unlisted : tie.Need-returns-16
+unlisted c = passed-over (getD rows 9 []) (drop 10 rows) 9 (15 ∷ 14 ∷ 13 ∷ 12 ∷ 11 ∷ 10 ∷ 9 ∷ 7 ∷ 6 ∷ 5 ∷ 4 ∷ 3 ∷ 2 ∷ 1 ∷ 0 ∷ []) (c .before .before .args .byte) (omega arith) (omega arith) tt refl (c .before .match .rest) (c .row-a .ensures)
 
 pub row-9-spec : {M : Type 1} → statement M
-row-9-spec = tie.close (tie.spec (λ c κs. search needs) (λ c. rw (c .match .keys1)) (λ c. rw (c .match .keys2)) returns-3)
+unfolding chained
+row-9-spec =
+    tie.close
+    (tie.spec (λ c κs. search needs) (λ c. rw (c .match .keys1)) (λ c. rw (c .match .keys2)) (λ c. rw (c .match .keys3))
+    (λ c. rw (c .match .keys4)) (λ c. rw (c .match .keys5)) (λ c. rw (c .match .keys6)) (λ c. rw (c .match .keys7))
+    (λ c. rw (c .match .keys8)) (λ c. rw (c .match .keys9)) (λ c. rw (c .match .keys10)) (λ c. rw (c .match .keys11))
+    (λ c. rw (c .match .keys12)) (λ c. rw (c .match .keys13)) (λ c. rw (c .match .keys14)) (λ c. rw (c .match .keys15)) unlisted)

@@ -1,25 +1,23 @@
 use mathlib.Core.List.{[], _∷_}
-use Prim.Native.Nat.{_+_, _%_}
-use mathlib.Core.Path.{_≡_, refl}
-use lib.ListN.{getD}
-use Rattle.execution.specs.declared.instructions.Instruction.the-variants.{Vector}
-use Rattle.execution.specs.declared.instructions.Decoded.the-variants.{Listed, Unlisted}
-use Rattle.execution.specs.Opcodes.{rowD}
-use Rattle.arithmetic.proofs.Rows.{default}
-use Rattle.execution.proofs.Arms.{any-of, spread}
+use mathlib.Core.Path.{refl}
+use native.Mathlib.Omega.{arith}
+use lib.ListN.{getD, drop}
+use Rattle.execution.specs.Chain.{chained}
+use Rattle.execution.specs.Opcodes.{rows}
+use Rattle.execution.proofs.Table.{passed-over}
 use borrow.Author.Needs.{needs}
 use Rattle.execution.proofs.opcodes.row_d.Statement.{statement}
 use Rattle.execution.proofs.opcodes.row_d.Tie as tie
 
-returns-9 : tie.Need-returns-9
-returns-9 c = any-of (λ k. Listed (Vector (208 + k % 16)) 4 ≡ getD rowD k Unlisted) 0 (2 ∷ 4 ∷ 6 ∷ 8 ∷ 10 ∷ 12 ∷ 14 ∷ []) (c .before .args .col) (c .match .keys9) (refl, (refl, (refl, (refl, (refl, (refl, (refl, (refl, tt))))))))
-
-returns-10 : tie.Need-returns-10
-returns-10 c = default Unlisted rowD (0 ∷ 2 ∷ 4 ∷ 6 ∷ 8 ∷ 10 ∷ 12 ∷ 14 ∷ 15 ∷ 13 ∷ 11 ∷ 9 ∷ 7 ∷ 5 ∷ 3 ∷ 1 ∷ []) 16 (c .before .args .col) refl (spread 0 (2 ∷ 4 ∷ 6 ∷ 8 ∷ 10 ∷ 12 ∷ 14 ∷ []) (c .before .args .col) (15 ∷ 13 ∷ 11 ∷ 9 ∷ 7 ∷ 5 ∷ 3 ∷ 1 ∷ []) (c .match .rest .0) (c .match .rest .1))
+unlisted : tie.Need-returns-17
+unlisted c = passed-over (getD rows 13 []) (drop 14 rows) 13 (15 ∷ 14 ∷ 13 ∷ 12 ∷ 11 ∷ 10 ∷ 9 ∷ 8 ∷ 7 ∷ 6 ∷ 5 ∷ 4 ∷ 3 ∷ 2 ∷ 1 ∷ 0 ∷ []) (c .before .before .args .byte) (omega arith) (omega arith) tt refl (c .before .match .rest) (c .row-e .ensures)
 
 pub row-d-spec : {M : Type 1} → statement M
+unfolding chained
 row-d-spec =
     tie.close
-    (tie.spec (λ c. search needs) (λ c. rw (c .match .keys1)) (λ c. rw (c .match .keys2)) (λ c. rw (c .match .keys3))
+    (tie.spec (λ c κs. search needs) (λ c. rw (c .match .keys1)) (λ c. rw (c .match .keys2)) (λ c. rw (c .match .keys3))
     (λ c. rw (c .match .keys4)) (λ c. rw (c .match .keys5)) (λ c. rw (c .match .keys6)) (λ c. rw (c .match .keys7))
-    (λ c. rw (c .match .keys8)) returns-9 returns-10)
+    (λ c. rw (c .match .keys8)) (λ c. rw (c .match .keys9)) (λ c. rw (c .match .keys10)) (λ c. rw (c .match .keys11))
+    (λ c. rw (c .match .keys12)) (λ c. rw (c .match .keys13)) (λ c. rw (c .match .keys14)) (λ c. rw (c .match .keys15))
+    (λ c. rw (c .match .keys16)) unlisted)

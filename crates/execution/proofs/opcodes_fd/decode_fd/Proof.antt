@@ -8,7 +8,7 @@ use Rattle.execution.proofs.opcodes_fd.decode_fd.Tie as tie
 
 returns : tie.Need-returns
 unfolding decodedFd
-returns c = c .from-0 .ensures ∙ table rowsFd tt (omega arith) (c .before .args .byte) (omega arith)
+returns c = c .row-0 .ensures ∙ table rowsFd tt (omega arith) (c .before .args .byte) (omega arith)
 
 pub decode-fd-spec : {M : Type 1} → statement M
 decode-fd-spec = tie.close (tie.spec (λ c κs. search needs) returns)

@@ -1,17 +1,22 @@
 use mathlib.Core.List.{[], _∷_}
 use mathlib.Core.Path.{refl}
-use Rattle.execution.specs.declared.instructions.Decoded.the-variants.{Unlisted}
-use Rattle.execution.specs.OpcodesFd.{row0}
-use Rattle.arithmetic.proofs.Rows.{default}
+use native.Mathlib.Omega.{arith}
+use lib.ListN.{getD, drop}
+use Rattle.execution.specs.Chain.{chained}
+use Rattle.execution.specs.OpcodesFd.{rowsFd}
+use Rattle.execution.proofs.Table.{passed-over}
+use borrow.Author.Needs.{needs}
 use Rattle.execution.proofs.opcodes_fd.row_0.Statement.{statement}
 use Rattle.execution.proofs.opcodes_fd.row_0.Tie as tie
 
-returns-13 : tie.Need-returns-13
-returns-13 c = default Unlisted (row0 (c .before .args .r)) (15 ∷ 14 ∷ 13 ∷ 12 ∷ 11 ∷ 10 ∷ 9 ∷ 8 ∷ 7 ∷ 5 ∷ 3 ∷ 1 ∷ []) 16 (c .before .args .col) refl (c .match .rest)
+unlisted : tie.Need-returns-13
+unlisted c = passed-over (getD rowsFd 0 []) (drop 1 rowsFd) 0 (15 ∷ 14 ∷ 13 ∷ 12 ∷ 11 ∷ 10 ∷ 9 ∷ 8 ∷ 7 ∷ 5 ∷ 3 ∷ 1 ∷ []) (c .before .before .args .byte) (omega arith) (omega arith) tt refl (c .before .match .rest) (c .row-1 .ensures)
 
 pub row-0-spec : {M : Type 1} → statement M
+unfolding chained
 row-0-spec =
     tie.close
-    (tie.spec (λ c. rw (c .match .keys1)) (λ c. rw (c .match .keys2)) (λ c. rw (c .match .keys3)) (λ c. rw (c .match .keys4))
-    (λ c. rw (c .match .keys5)) (λ c. rw (c .match .keys6)) (λ c. rw (c .match .keys7)) (λ c. rw (c .match .keys8))
-    (λ c. rw (c .match .keys9)) (λ c. rw (c .match .keys10)) (λ c. rw (c .match .keys11)) (λ c. rw (c .match .keys12)) returns-13)
+    (tie.spec (λ c κs. search needs) (λ c. rw (c .match .keys1)) (λ c. rw (c .match .keys2)) (λ c. rw (c .match .keys3))
+    (λ c. rw (c .match .keys4)) (λ c. rw (c .match .keys5)) (λ c. rw (c .match .keys6)) (λ c. rw (c .match .keys7))
+    (λ c. rw (c .match .keys8)) (λ c. rw (c .match .keys9)) (λ c. rw (c .match .keys10)) (λ c. rw (c .match .keys11))
+    (λ c. rw (c .match .keys12)) unlisted)

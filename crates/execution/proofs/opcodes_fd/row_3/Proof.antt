@@ -1,13 +1,19 @@
 use mathlib.Core.List.{[], _∷_}
 use mathlib.Core.Path.{refl}
-use Rattle.execution.specs.declared.instructions.Decoded.the-variants.{Unlisted}
-use Rattle.execution.specs.OpcodesFd.{row3}
-use Rattle.arithmetic.proofs.Rows.{default}
+use native.Mathlib.Omega.{arith}
+use lib.ListN.{getD, drop}
+use Rattle.execution.specs.Chain.{chained}
+use Rattle.execution.specs.OpcodesFd.{rowsFd}
+use Rattle.execution.proofs.Table.{passed-over}
+use borrow.Author.Needs.{needs}
 use Rattle.execution.proofs.opcodes_fd.row_3.Statement.{statement}
 use Rattle.execution.proofs.opcodes_fd.row_3.Tie as tie
 
-returns-2 : tie.Need-returns-2
-returns-2 c = default Unlisted row3 (10 ∷ []) 16 (c .before .args .col) refl (c .match .rest)
+unlisted : tie.Need-returns-2
+unlisted c = passed-over (getD rowsFd 3 []) (drop 4 rowsFd) 3 (10 ∷ []) (c .before .before .args .byte) (omega arith) (omega arith) tt refl (c .before .match .rest) (c .row-4 .ensures)
 
 pub row-3-spec : {M : Type 1} → statement M
-row-3-spec = tie.close (tie.spec (λ c. rw (c .match .keys1)) returns-2)
+unfolding chained
+row-3-spec =
+    tie.close
+    (tie.spec (λ c κs. search needs) (λ c. rw (c .match .keys1)) unlisted)

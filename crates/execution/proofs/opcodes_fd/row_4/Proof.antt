@@ -1,15 +1,21 @@
 use mathlib.Core.List.{[], _∷_}
-use mathlib.Core.Path.{refl, _∙_}
-use Rattle.execution.specs.declared.places.Register.the-variants.{X}
-use Rattle.execution.specs.declared.instructions.Decoded.the-variants.{Unlisted}
-use Rattle.execution.specs.OpcodesFd.{row4, row4X}
-use Rattle.execution.proofs.Arms.{other}
+use mathlib.Core.Path.{refl}
+use native.Mathlib.Omega.{arith}
+use lib.ListN.{getD, drop}
+use Rattle.execution.specs.Chain.{chained}
+use Rattle.execution.specs.OpcodesFd.{rowsFd}
+use Rattle.execution.proofs.Table.{passed-over}
 use borrow.Author.Needs.{needs}
 use Rattle.execution.proofs.opcodes_fd.row_4.Statement.{statement}
 use Rattle.execution.proofs.opcodes_fd.row_4.Tie as tie
 
-returns-4 : tie.Need-returns-4
-returns-4 c = c .row-4-shared .ensures ∙ other Unlisted row4X (row4 X Unlisted Unlisted Unlisted) (14 ∷ 12 ∷ 8 ∷ []) (c .before .before .args .col) refl (c .before .match .rest)
+unlisted : tie.Need-returns-11
+unlisted c = passed-over (getD rowsFd 4 []) (drop 5 rowsFd) 4 (15 ∷ 14 ∷ 13 ∷ 12 ∷ 11 ∷ 10 ∷ 9 ∷ 8 ∷ 2 ∷ 0 ∷ []) (c .before .before .args .byte) (omega arith) (omega arith) tt refl (c .before .match .rest) (c .row-5 .ensures)
 
 pub row-4-spec : {M : Type 1} → statement M
-row-4-spec = tie.close (tie.spec (λ c κs. search needs) (λ c. rw (c .match .keys1)) (λ c. rw (c .match .keys2)) (λ c. rw (c .match .keys3)) returns-4)
+unfolding chained
+row-4-spec =
+    tie.close
+    (tie.spec (λ c κs. search needs) (λ c. rw (c .match .keys1)) (λ c. rw (c .match .keys2)) (λ c. rw (c .match .keys3))
+    (λ c. rw (c .match .keys4)) (λ c. rw (c .match .keys5)) (λ c. rw (c .match .keys6)) (λ c. rw (c .match .keys7))
+    (λ c. rw (c .match .keys8)) (λ c. rw (c .match .keys9)) (λ c. rw (c .match .keys10)) unlisted)

@@ -1,15 +1,21 @@
 use mathlib.Core.List.{[], _∷_}
-use mathlib.Core.Path.{refl, _∙_}
-use Rattle.execution.specs.declared.places.Register.the-variants.{Y}
-use Rattle.execution.specs.declared.instructions.Decoded.the-variants.{Unlisted}
-use Rattle.execution.specs.OpcodesFd.{row4, row4Y}
-use Rattle.execution.proofs.Arms.{other}
+use mathlib.Core.Path.{refl}
+use native.Mathlib.Omega.{arith}
+use lib.ListN.{getD, drop}
+use Rattle.execution.specs.Chain.{chained}
+use Rattle.execution.specs.OpcodesFd.{rowsFd}
+use Rattle.execution.proofs.Table.{passed-over}
 use borrow.Author.Needs.{needs}
 use Rattle.execution.proofs.opcodes_fd.row_5.Statement.{statement}
 use Rattle.execution.proofs.opcodes_fd.row_5.Tie as tie
 
-returns-3 : tie.Need-returns-3
-returns-3 c = c .row-4-shared .ensures ∙ other Unlisted row4Y (row4 Y Unlisted Unlisted Unlisted) (14 ∷ 8 ∷ []) (c .before .before .args .col) refl (c .before .match .rest)
+unlisted : tie.Need-returns-10
+unlisted c = passed-over (getD rowsFd 5 []) (drop 6 rowsFd) 5 (15 ∷ 14 ∷ 13 ∷ 11 ∷ 10 ∷ 9 ∷ 8 ∷ 2 ∷ 0 ∷ []) (c .before .before .args .byte) (omega arith) (omega arith) tt refl (c .before .match .rest) (c .row-6 .ensures)
 
 pub row-5-spec : {M : Type 1} → statement M
-row-5-spec = tie.close (tie.spec (λ c κs. search needs) (λ c. rw (c .match .keys1)) (λ c. rw (c .match .keys2)) returns-3)
+unfolding chained
+row-5-spec =
+    tie.close
+    (tie.spec (λ c κs. search needs) (λ c. rw (c .match .keys1)) (λ c. rw (c .match .keys2)) (λ c. rw (c .match .keys3))
+    (λ c. rw (c .match .keys4)) (λ c. rw (c .match .keys5)) (λ c. rw (c .match .keys6)) (λ c. rw (c .match .keys7))
+    (λ c. rw (c .match .keys8)) (λ c. rw (c .match .keys9)) unlisted)

@@ -1,14 +1,20 @@
 use mathlib.Core.List.{[], _∷_}
 use mathlib.Core.Path.{refl}
-use Rattle.execution.specs.declared.instructions.Decoded.the-variants.{Unlisted}
-use Rattle.execution.specs.OpcodesFd.{rowC}
-use Rattle.arithmetic.proofs.Rows.{default}
+use native.Mathlib.Omega.{arith}
+use lib.ListN.{getD, drop}
+use Rattle.execution.specs.Chain.{chained}
+use Rattle.execution.specs.OpcodesFd.{rowsFd}
+use Rattle.execution.proofs.Table.{passed-over}
+use borrow.Author.Needs.{needs}
 use Rattle.execution.proofs.opcodes_fd.row_c.Statement.{statement}
 use Rattle.execution.proofs.opcodes_fd.row_c.Tie as tie
 
-returns-7 : tie.Need-returns-7
-returns-7 c = default Unlisted rowC (14 ∷ 12 ∷ 10 ∷ 8 ∷ 1 ∷ 0 ∷ []) 16 (c .before .args .col) refl (c .match .rest)
+unlisted : tie.Need-returns-7
+unlisted c = passed-over (getD rowsFd 12 []) (drop 13 rowsFd) 12 (14 ∷ 12 ∷ 10 ∷ 8 ∷ 1 ∷ 0 ∷ []) (c .before .before .args .byte) (omega arith) (omega arith) tt refl (c .before .match .rest) (c .row-d .ensures)
 
 pub row-c-spec : {M : Type 1} → statement M
+unfolding chained
 row-c-spec =
-    tie.close (tie.spec (λ c. rw (c .match .keys1)) (λ c. rw (c .match .keys2)) (λ c. rw (c .match .keys3)) (λ c. rw (c .match .keys4)) (λ c. rw (c .match .keys5)) (λ c. rw (c .match .keys6)) returns-7)
+    tie.close
+    (tie.spec (λ c κs. search needs) (λ c. rw (c .match .keys1)) (λ c. rw (c .match .keys2)) (λ c. rw (c .match .keys3))
+    (λ c. rw (c .match .keys4)) (λ c. rw (c .match .keys5)) (λ c. rw (c .match .keys6)) unlisted)

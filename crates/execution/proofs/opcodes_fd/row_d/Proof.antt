@@ -1,13 +1,20 @@
 use mathlib.Core.List.{[], _∷_}
 use mathlib.Core.Path.{refl}
-use Rattle.execution.specs.declared.instructions.Decoded.the-variants.{Unlisted}
-use Rattle.execution.specs.OpcodesFd.{rowD}
-use Rattle.arithmetic.proofs.Rows.{default}
+use native.Mathlib.Omega.{arith}
+use lib.ListN.{getD, drop}
+use Rattle.execution.specs.Chain.{chained}
+use Rattle.execution.specs.OpcodesFd.{rowsFd}
+use Rattle.execution.proofs.Table.{passed-over}
+use borrow.Author.Needs.{needs}
 use Rattle.execution.proofs.opcodes_fd.row_d.Statement.{statement}
 use Rattle.execution.proofs.opcodes_fd.row_d.Tie as tie
 
-returns-5 : tie.Need-returns-5
-returns-5 c = default Unlisted rowD (14 ∷ 10 ∷ 7 ∷ 3 ∷ []) 16 (c .before .args .col) refl (c .match .rest)
+unlisted : tie.Need-returns-5
+unlisted c = passed-over (getD rowsFd 13 []) (drop 14 rowsFd) 13 (14 ∷ 10 ∷ 7 ∷ 3 ∷ []) (c .before .before .args .byte) (omega arith) (omega arith) tt refl (c .before .match .rest) (c .row-e .ensures)
 
 pub row-d-spec : {M : Type 1} → statement M
-row-d-spec = tie.close (tie.spec (λ c. rw (c .match .keys1)) (λ c. rw (c .match .keys2)) (λ c. rw (c .match .keys3)) (λ c. rw (c .match .keys4)) returns-5)
+unfolding chained
+row-d-spec =
+    tie.close
+    (tie.spec (λ c κs. search needs) (λ c. rw (c .match .keys1)) (λ c. rw (c .match .keys2)) (λ c. rw (c .match .keys3))
+    (λ c. rw (c .match .keys4)) unlisted)

@@ -1,0 +1,23 @@
+use mathlib.Core.List.{[], _∷_}
+use mathlib.Core.Path.{refl}
+use native.Mathlib.Omega.{arith}
+use lib.ListN.{getD, drop}
+use Rattle.execution.specs.Chain.{chained}
+use Rattle.execution.specs.Opcodes.{rows}
+use Rattle.execution.proofs.Table.{passed-over}
+use borrow.Author.Needs.{needs}
+use Rattle.execution.proofs.opcodes.row_6.Statement.{statement}
+use Rattle.execution.proofs.opcodes.row_6.Tie as tie
+
+unlisted : tie.Need-returns-17
+unlisted c = passed-over (getD rows 6 []) (drop 7 rows) 6 (15 ∷ 14 ∷ 13 ∷ 12 ∷ 11 ∷ 10 ∷ 9 ∷ 8 ∷ 7 ∷ 6 ∷ 5 ∷ 4 ∷ 3 ∷ 2 ∷ 1 ∷ 0 ∷ []) (c .before .before .args .byte) (omega arith) (omega arith) tt refl (c .before .match .rest) (c .row-7 .ensures)
+
+pub row-6-spec : {M : Type 1} → statement M
+unfolding chained
+row-6-spec =
+    tie.close
+    (tie.spec (λ c κs. search needs) (λ c. rw (c .match .keys1)) (λ c. rw (c .match .keys2)) (λ c. rw (c .match .keys3))
+    (λ c. rw (c .match .keys4)) (λ c. rw (c .match .keys5)) (λ c. rw (c .match .keys6)) (λ c. rw (c .match .keys7))
+    (λ c. rw (c .match .keys8)) (λ c. rw (c .match .keys9)) (λ c. rw (c .match .keys10)) (λ c. rw (c .match .keys11))
+    (λ c. rw (c .match .keys12)) (λ c. rw (c .match .keys13)) (λ c. rw (c .match .keys14)) (λ c. rw (c .match .keys15))
+    (λ c. rw (c .match .keys16)) unlisted)

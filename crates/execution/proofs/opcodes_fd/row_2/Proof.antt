@@ -1,0 +1,22 @@
+use mathlib.Core.List.{[], _∷_}
+use mathlib.Core.Path.{refl}
+use native.Mathlib.Omega.{arith}
+use lib.ListN.{getD, drop}
+use Rattle.execution.specs.Chain.{chained}
+use Rattle.execution.specs.OpcodesFd.{rowsFd}
+use Rattle.execution.proofs.Table.{passed-over}
+use borrow.Author.Needs.{needs}
+use Rattle.execution.proofs.opcodes_fd.row_2.Statement.{statement}
+use Rattle.execution.proofs.opcodes_fd.row_2.Tie as tie
+
+unlisted : tie.Need-returns-13
+unlisted c = passed-over (getD rowsFd 2 []) (drop 3 rowsFd) 2 (15 ∷ 14 ∷ 13 ∷ 12 ∷ 11 ∷ 10 ∷ 9 ∷ 8 ∷ 7 ∷ 5 ∷ 3 ∷ 1 ∷ []) (c .before .before .args .byte) (omega arith) (omega arith) tt refl (c .before .match .rest) (c .row-3 .ensures)
+
+pub row-2-spec : {M : Type 1} → statement M
+unfolding chained
+row-2-spec =
+    tie.close
+    (tie.spec (λ c κs. search needs) (λ c. rw (c .match .keys1)) (λ c. rw (c .match .keys2)) (λ c. rw (c .match .keys3))
+    (λ c. rw (c .match .keys4)) (λ c. rw (c .match .keys5)) (λ c. rw (c .match .keys6)) (λ c. rw (c .match .keys7))
+    (λ c. rw (c .match .keys8)) (λ c. rw (c .match .keys9)) (λ c. rw (c .match .keys10)) (λ c. rw (c .match .keys11))
+    (λ c. rw (c .match .keys12)) unlisted)

@@ -11,6 +11,7 @@ use crate::instructions::Decoded;
 use crate::instructions::Instruction;
 use arithmetic::record::Lh5801;
 
+pub mod entries;
 pub mod flow;
 pub mod instructions;
 pub mod opcodes;

@@ -5,13 +5,12 @@ ghost use mathlib.Core.Path.{_≡_};
 ghost use lib.ListN.{drop};
 ghost use Rattle.execution.specs.Opcodes.{rows, decoded};
 ghost use Rattle.execution.specs.Chain.{chained};
+use crate::entries;
 use crate::instructions::Accumulator;
 use crate::instructions::Change;
 use crate::instructions::Condition;
 use crate::instructions::Decoded;
 use crate::instructions::Instruction;
-use crate::instructions::Instruction::Alu;
-use crate::instructions::Instruction::Memory;
 use crate::instructions::Operation;
 use crate::instructions::Signal;
 use crate::places::Half;
@@ -26,23 +25,25 @@ use crate::places::Register::Y;
 fn row_0(byte: u8) -> Decoded
     ensures { λ d. ⌜ d ≡ chained (drop 0 rows) 0 byte ⌝ }
 {
+    let low = Place::Half(Half::Low(X));
+    let at = Place::Pointer(X, Page::Me0);
     match byte {
-        0x00 => Decoded::Listed(Alu(Operation::Sbc, Place::Half(Half::Low(X))), 6),
-        0x01 => Decoded::Listed(Alu(Operation::Sbc, Place::Pointer(X, Page::Me0)), 7),
-        0x02 => Decoded::Listed(Alu(Operation::Adc, Place::Half(Half::Low(X))), 6),
-        0x03 => Decoded::Listed(Alu(Operation::Adc, Place::Pointer(X, Page::Me0)), 7),
-        0x04 => Decoded::Listed(Alu(Operation::Lda, Place::Half(Half::Low(X))), 5),
-        0x05 => Decoded::Listed(Alu(Operation::Lda, Place::Pointer(X, Page::Me0)), 6),
-        0x06 => Decoded::Listed(Alu(Operation::Cpa, Place::Half(Half::Low(X))), 6),
-        0x07 => Decoded::Listed(Alu(Operation::Cpa, Place::Pointer(X, Page::Me0)), 7),
-        0x08 => Decoded::Listed(Instruction::Sta(Place::Half(Half::High(X))), 5),
-        0x09 => Decoded::Listed(Alu(Operation::And, Place::Pointer(X, Page::Me0)), 7),
-        0x0a => Decoded::Listed(Instruction::Sta(Place::Half(Half::Low(X))), 5),
-        0x0b => Decoded::Listed(Alu(Operation::Ora, Place::Pointer(X, Page::Me0)), 7),
-        0x0c => Decoded::Listed(Alu(Operation::Dcs, Place::Pointer(X, Page::Me0)), 13),
-        0x0d => Decoded::Listed(Alu(Operation::Eor, Place::Pointer(X, Page::Me0)), 7),
-        0x0e => Decoded::Listed(Instruction::Sta(Place::Pointer(X, Page::Me0)), 6),
-        0x0f => Decoded::Listed(Alu(Operation::Bit, Place::Pointer(X, Page::Me0)), 7),
+        0x00 => entries::alu(Operation::Sbc, low, 6),
+        0x01 => entries::alu(Operation::Sbc, at, 7),
+        0x02 => entries::alu(Operation::Adc, low, 6),
+        0x03 => entries::alu(Operation::Adc, at, 7),
+        0x04 => entries::alu(Operation::Lda, low, 5),
+        0x05 => entries::alu(Operation::Lda, at, 6),
+        0x06 => entries::alu(Operation::Cpa, low, 6),
+        0x07 => entries::alu(Operation::Cpa, at, 7),
+        0x08 => entries::sta(Place::Half(Half::High(X)), 5),
+        0x09 => entries::alu(Operation::And, at, 7),
+        0x0a => entries::sta(low, 5),
+        0x0b => entries::alu(Operation::Ora, at, 7),
+        0x0c => entries::alu(Operation::Dcs, at, 13),
+        0x0d => entries::alu(Operation::Eor, at, 7),
+        0x0e => entries::sta(at, 6),
+        0x0f => entries::alu(Operation::Bit, at, 7),
         _ => row_1(byte),
     }
 }
@@ -50,23 +51,25 @@ fn row_0(byte: u8) -> Decoded
 fn row_1(byte: u8) -> Decoded
     ensures { λ d. ⌜ d ≡ chained (drop 1 rows) 1 byte ⌝ }
 {
+    let low = Place::Half(Half::Low(Y));
+    let at = Place::Pointer(Y, Page::Me0);
     match byte {
-        0x10 => Decoded::Listed(Alu(Operation::Sbc, Place::Half(Half::Low(Y))), 6),
-        0x11 => Decoded::Listed(Alu(Operation::Sbc, Place::Pointer(Y, Page::Me0)), 7),
-        0x12 => Decoded::Listed(Alu(Operation::Adc, Place::Half(Half::Low(Y))), 6),
-        0x13 => Decoded::Listed(Alu(Operation::Adc, Place::Pointer(Y, Page::Me0)), 7),
-        0x14 => Decoded::Listed(Alu(Operation::Lda, Place::Half(Half::Low(Y))), 5),
-        0x15 => Decoded::Listed(Alu(Operation::Lda, Place::Pointer(Y, Page::Me0)), 6),
-        0x16 => Decoded::Listed(Alu(Operation::Cpa, Place::Half(Half::Low(Y))), 6),
-        0x17 => Decoded::Listed(Alu(Operation::Cpa, Place::Pointer(Y, Page::Me0)), 7),
-        0x18 => Decoded::Listed(Instruction::Sta(Place::Half(Half::High(Y))), 5),
-        0x19 => Decoded::Listed(Alu(Operation::And, Place::Pointer(Y, Page::Me0)), 7),
-        0x1a => Decoded::Listed(Instruction::Sta(Place::Half(Half::Low(Y))), 5),
-        0x1b => Decoded::Listed(Alu(Operation::Ora, Place::Pointer(Y, Page::Me0)), 7),
-        0x1c => Decoded::Listed(Alu(Operation::Dcs, Place::Pointer(Y, Page::Me0)), 13),
-        0x1d => Decoded::Listed(Alu(Operation::Eor, Place::Pointer(Y, Page::Me0)), 7),
-        0x1e => Decoded::Listed(Instruction::Sta(Place::Pointer(Y, Page::Me0)), 6),
-        0x1f => Decoded::Listed(Alu(Operation::Bit, Place::Pointer(Y, Page::Me0)), 7),
+        0x10 => entries::alu(Operation::Sbc, low, 6),
+        0x11 => entries::alu(Operation::Sbc, at, 7),
+        0x12 => entries::alu(Operation::Adc, low, 6),
+        0x13 => entries::alu(Operation::Adc, at, 7),
+        0x14 => entries::alu(Operation::Lda, low, 5),
+        0x15 => entries::alu(Operation::Lda, at, 6),
+        0x16 => entries::alu(Operation::Cpa, low, 6),
+        0x17 => entries::alu(Operation::Cpa, at, 7),
+        0x18 => entries::sta(Place::Half(Half::High(Y)), 5),
+        0x19 => entries::alu(Operation::And, at, 7),
+        0x1a => entries::sta(low, 5),
+        0x1b => entries::alu(Operation::Ora, at, 7),
+        0x1c => entries::alu(Operation::Dcs, at, 13),
+        0x1d => entries::alu(Operation::Eor, at, 7),
+        0x1e => entries::sta(at, 6),
+        0x1f => entries::alu(Operation::Bit, at, 7),
         _ => row_2(byte),
     }
 }
@@ -74,23 +77,25 @@ fn row_1(byte: u8) -> Decoded
 fn row_2(byte: u8) -> Decoded
     ensures { λ d. ⌜ d ≡ chained (drop 2 rows) 2 byte ⌝ }
 {
+    let low = Place::Half(Half::Low(U));
+    let at = Place::Pointer(U, Page::Me0);
     match byte {
-        0x20 => Decoded::Listed(Alu(Operation::Sbc, Place::Half(Half::Low(U))), 6),
-        0x21 => Decoded::Listed(Alu(Operation::Sbc, Place::Pointer(U, Page::Me0)), 7),
-        0x22 => Decoded::Listed(Alu(Operation::Adc, Place::Half(Half::Low(U))), 6),
-        0x23 => Decoded::Listed(Alu(Operation::Adc, Place::Pointer(U, Page::Me0)), 7),
-        0x24 => Decoded::Listed(Alu(Operation::Lda, Place::Half(Half::Low(U))), 5),
-        0x25 => Decoded::Listed(Alu(Operation::Lda, Place::Pointer(U, Page::Me0)), 6),
-        0x26 => Decoded::Listed(Alu(Operation::Cpa, Place::Half(Half::Low(U))), 6),
-        0x27 => Decoded::Listed(Alu(Operation::Cpa, Place::Pointer(U, Page::Me0)), 7),
-        0x28 => Decoded::Listed(Instruction::Sta(Place::Half(Half::High(U))), 5),
-        0x29 => Decoded::Listed(Alu(Operation::And, Place::Pointer(U, Page::Me0)), 7),
-        0x2a => Decoded::Listed(Instruction::Sta(Place::Half(Half::Low(U))), 5),
-        0x2b => Decoded::Listed(Alu(Operation::Ora, Place::Pointer(U, Page::Me0)), 7),
-        0x2c => Decoded::Listed(Alu(Operation::Dcs, Place::Pointer(U, Page::Me0)), 13),
-        0x2d => Decoded::Listed(Alu(Operation::Eor, Place::Pointer(U, Page::Me0)), 7),
-        0x2e => Decoded::Listed(Instruction::Sta(Place::Pointer(U, Page::Me0)), 6),
-        0x2f => Decoded::Listed(Alu(Operation::Bit, Place::Pointer(U, Page::Me0)), 7),
+        0x20 => entries::alu(Operation::Sbc, low, 6),
+        0x21 => entries::alu(Operation::Sbc, at, 7),
+        0x22 => entries::alu(Operation::Adc, low, 6),
+        0x23 => entries::alu(Operation::Adc, at, 7),
+        0x24 => entries::alu(Operation::Lda, low, 5),
+        0x25 => entries::alu(Operation::Lda, at, 6),
+        0x26 => entries::alu(Operation::Cpa, low, 6),
+        0x27 => entries::alu(Operation::Cpa, at, 7),
+        0x28 => entries::sta(Place::Half(Half::High(U)), 5),
+        0x29 => entries::alu(Operation::And, at, 7),
+        0x2a => entries::sta(low, 5),
+        0x2b => entries::alu(Operation::Ora, at, 7),
+        0x2c => entries::alu(Operation::Dcs, at, 13),
+        0x2d => entries::alu(Operation::Eor, at, 7),
+        0x2e => entries::sta(at, 6),
+        0x2f => entries::alu(Operation::Bit, at, 7),
         _ => row_3(byte),
     }
 }
@@ -99,12 +104,13 @@ fn row_2(byte: u8) -> Decoded
 fn row_3(byte: u8) -> Decoded
     ensures { λ d. ⌜ d ≡ chained (drop 3 rows) 3 byte ⌝ }
 {
+    let missing = Place::Half(Half::None);
     match byte {
-        0x30 => Decoded::Listed(Alu(Operation::Sbc, Place::Half(Half::None)), 6),
-        0x32 => Decoded::Listed(Alu(Operation::Adc, Place::Half(Half::None)), 6),
-        0x34 => Decoded::Listed(Alu(Operation::Lda, Place::Half(Half::None)), 5),
-        0x36 => Decoded::Listed(Alu(Operation::Cpa, Place::Half(Half::None)), 6),
-        0x38 => Decoded::Listed(Instruction::Sta(Place::Half(Half::None)), 5),
+        0x30 => entries::alu(Operation::Sbc, missing, 6),
+        0x32 => entries::alu(Operation::Adc, missing, 6),
+        0x34 => entries::alu(Operation::Lda, missing, 5),
+        0x36 => entries::alu(Operation::Cpa, missing, 6),
+        0x38 => entries::sta(missing, 5),
         _ => row_4(byte),
     }
 }
@@ -113,23 +119,25 @@ fn row_3(byte: u8) -> Decoded
 fn row_4(byte: u8) -> Decoded
     ensures { λ d. ⌜ d ≡ chained (drop 4 rows) 4 byte ⌝ }
 {
+    let in_code = Place::InCode;
+    let at = Place::Pointer(X, Page::Me0);
     match byte {
-        0x40 => Decoded::Listed(Instruction::Inc(Half::Low(X)), 5),
-        0x41 => Decoded::Listed(Instruction::Sin(X), 6),
-        0x42 => Decoded::Listed(Instruction::Dec(Half::Low(X)), 5),
-        0x43 => Decoded::Listed(Instruction::Sde(X), 6),
-        0x44 => Decoded::Listed(Instruction::IncWord(X), 5),
-        0x45 => Decoded::Listed(Instruction::Lin(X), 6),
-        0x46 => Decoded::Listed(Instruction::DecWord(X), 5),
-        0x47 => Decoded::Listed(Instruction::Lde(X), 6),
-        0x48 => Decoded::Listed(Instruction::Load(Half::High(X), Place::InCode), 6),
-        0x49 => Decoded::Listed(Memory(Change::And, Place::Pointer(X, Page::Me0)), 13),
-        0x4a => Decoded::Listed(Instruction::Load(Half::Low(X), Place::InCode), 6),
-        0x4b => Decoded::Listed(Memory(Change::Ora, Place::Pointer(X, Page::Me0)), 13),
-        0x4c => Decoded::Listed(Instruction::Compare(Half::High(X), Place::InCode), 7),
-        0x4d => Decoded::Listed(Instruction::Bii(Place::Pointer(X, Page::Me0)), 10),
-        0x4e => Decoded::Listed(Instruction::Compare(Half::Low(X), Place::InCode), 7),
-        0x4f => Decoded::Listed(Memory(Change::Add, Place::Pointer(X, Page::Me0)), 13),
+        0x40 => entries::inc(Half::Low(X), 5),
+        0x41 => entries::sin(X, 6),
+        0x42 => entries::dec(Half::Low(X), 5),
+        0x43 => entries::sde(X, 6),
+        0x44 => entries::inc_word(X, 5),
+        0x45 => entries::lin(X, 6),
+        0x46 => entries::dec_word(X, 5),
+        0x47 => entries::lde(X, 6),
+        0x48 => entries::load(Half::High(X), in_code, 6),
+        0x49 => entries::memory(Change::And, at, 13),
+        0x4a => entries::load(Half::Low(X), in_code, 6),
+        0x4b => entries::memory(Change::Ora, at, 13),
+        0x4c => entries::compare(Half::High(X), in_code, 7),
+        0x4d => entries::bii(at, 10),
+        0x4e => entries::compare(Half::Low(X), in_code, 7),
+        0x4f => entries::memory(Change::Add, at, 13),
         _ => row_5(byte),
     }
 }
@@ -137,23 +145,25 @@ fn row_4(byte: u8) -> Decoded
 fn row_5(byte: u8) -> Decoded
     ensures { λ d. ⌜ d ≡ chained (drop 5 rows) 5 byte ⌝ }
 {
+    let in_code = Place::InCode;
+    let at = Place::Pointer(Y, Page::Me0);
     match byte {
-        0x50 => Decoded::Listed(Instruction::Inc(Half::Low(Y)), 5),
-        0x51 => Decoded::Listed(Instruction::Sin(Y), 6),
-        0x52 => Decoded::Listed(Instruction::Dec(Half::Low(Y)), 5),
-        0x53 => Decoded::Listed(Instruction::Sde(Y), 6),
-        0x54 => Decoded::Listed(Instruction::IncWord(Y), 5),
-        0x55 => Decoded::Listed(Instruction::Lin(Y), 6),
-        0x56 => Decoded::Listed(Instruction::DecWord(Y), 5),
-        0x57 => Decoded::Listed(Instruction::Lde(Y), 6),
-        0x58 => Decoded::Listed(Instruction::Load(Half::High(Y), Place::InCode), 6),
-        0x59 => Decoded::Listed(Memory(Change::And, Place::Pointer(Y, Page::Me0)), 13),
-        0x5a => Decoded::Listed(Instruction::Load(Half::Low(Y), Place::InCode), 6),
-        0x5b => Decoded::Listed(Memory(Change::Ora, Place::Pointer(Y, Page::Me0)), 13),
-        0x5c => Decoded::Listed(Instruction::Compare(Half::High(Y), Place::InCode), 7),
-        0x5d => Decoded::Listed(Instruction::Bii(Place::Pointer(Y, Page::Me0)), 10),
-        0x5e => Decoded::Listed(Instruction::Compare(Half::Low(Y), Place::InCode), 7),
-        0x5f => Decoded::Listed(Memory(Change::Add, Place::Pointer(Y, Page::Me0)), 13),
+        0x50 => entries::inc(Half::Low(Y), 5),
+        0x51 => entries::sin(Y, 6),
+        0x52 => entries::dec(Half::Low(Y), 5),
+        0x53 => entries::sde(Y, 6),
+        0x54 => entries::inc_word(Y, 5),
+        0x55 => entries::lin(Y, 6),
+        0x56 => entries::dec_word(Y, 5),
+        0x57 => entries::lde(Y, 6),
+        0x58 => entries::load(Half::High(Y), in_code, 6),
+        0x59 => entries::memory(Change::And, at, 13),
+        0x5a => entries::load(Half::Low(Y), in_code, 6),
+        0x5b => entries::memory(Change::Ora, at, 13),
+        0x5c => entries::compare(Half::High(Y), in_code, 7),
+        0x5d => entries::bii(at, 10),
+        0x5e => entries::compare(Half::Low(Y), in_code, 7),
+        0x5f => entries::memory(Change::Add, at, 13),
         _ => row_6(byte),
     }
 }
@@ -161,23 +171,25 @@ fn row_5(byte: u8) -> Decoded
 fn row_6(byte: u8) -> Decoded
     ensures { λ d. ⌜ d ≡ chained (drop 6 rows) 6 byte ⌝ }
 {
+    let in_code = Place::InCode;
+    let at = Place::Pointer(U, Page::Me0);
     match byte {
-        0x60 => Decoded::Listed(Instruction::Inc(Half::Low(U)), 5),
-        0x61 => Decoded::Listed(Instruction::Sin(U), 6),
-        0x62 => Decoded::Listed(Instruction::Dec(Half::Low(U)), 5),
-        0x63 => Decoded::Listed(Instruction::Sde(U), 6),
-        0x64 => Decoded::Listed(Instruction::IncWord(U), 5),
-        0x65 => Decoded::Listed(Instruction::Lin(U), 6),
-        0x66 => Decoded::Listed(Instruction::DecWord(U), 5),
-        0x67 => Decoded::Listed(Instruction::Lde(U), 6),
-        0x68 => Decoded::Listed(Instruction::Load(Half::High(U), Place::InCode), 6),
-        0x69 => Decoded::Listed(Memory(Change::And, Place::Pointer(U, Page::Me0)), 13),
-        0x6a => Decoded::Listed(Instruction::Load(Half::Low(U), Place::InCode), 6),
-        0x6b => Decoded::Listed(Memory(Change::Ora, Place::Pointer(U, Page::Me0)), 13),
-        0x6c => Decoded::Listed(Instruction::Compare(Half::High(U), Place::InCode), 7),
-        0x6d => Decoded::Listed(Instruction::Bii(Place::Pointer(U, Page::Me0)), 10),
-        0x6e => Decoded::Listed(Instruction::Compare(Half::Low(U), Place::InCode), 7),
-        0x6f => Decoded::Listed(Memory(Change::Add, Place::Pointer(U, Page::Me0)), 13),
+        0x60 => entries::inc(Half::Low(U), 5),
+        0x61 => entries::sin(U, 6),
+        0x62 => entries::dec(Half::Low(U), 5),
+        0x63 => entries::sde(U, 6),
+        0x64 => entries::inc_word(U, 5),
+        0x65 => entries::lin(U, 6),
+        0x66 => entries::dec_word(U, 5),
+        0x67 => entries::lde(U, 6),
+        0x68 => entries::load(Half::High(U), in_code, 6),
+        0x69 => entries::memory(Change::And, at, 13),
+        0x6a => entries::load(Half::Low(U), in_code, 6),
+        0x6b => entries::memory(Change::Ora, at, 13),
+        0x6c => entries::compare(Half::High(U), in_code, 7),
+        0x6d => entries::bii(at, 10),
+        0x6e => entries::compare(Half::Low(U), in_code, 7),
+        0x6f => entries::memory(Change::Add, at, 13),
         _ => row_7(byte),
     }
 }
@@ -187,7 +199,7 @@ fn row_7(byte: u8) -> Decoded
     ensures { λ d. ⌜ d ≡ chained (drop 7 rows) 7 byte ⌝ }
 {
     match byte {
-        0x72 => Decoded::Listed(Instruction::Dec(Half::None), 5),
+        0x72 => entries::dec(Half::None, 5),
         _ => row_8(byte),
     }
 }
@@ -196,23 +208,24 @@ fn row_7(byte: u8) -> Decoded
 fn row_8(byte: u8) -> Decoded
     ensures { λ d. ⌜ d ≡ chained (drop 8 rows) 8 byte ⌝ }
 {
+    let high = Place::Half(Half::High(X));
     match byte {
-        0x80 => Decoded::Listed(Alu(Operation::Sbc, Place::Half(Half::High(X))), 6),
-        0x81 => Decoded::Listed(Instruction::Branch(Condition::NoCarry, true), 8),
-        0x82 => Decoded::Listed(Alu(Operation::Adc, Place::Half(Half::High(X))), 6),
-        0x83 => Decoded::Listed(Instruction::Branch(Condition::Carry, true), 8),
-        0x84 => Decoded::Listed(Alu(Operation::Lda, Place::Half(Half::High(X))), 5),
-        0x85 => Decoded::Listed(Instruction::Branch(Condition::NoHalf, true), 8),
-        0x86 => Decoded::Listed(Alu(Operation::Cpa, Place::Half(Half::High(X))), 6),
-        0x87 => Decoded::Listed(Instruction::Branch(Condition::Half, true), 8),
+        0x80 => entries::alu(Operation::Sbc, high, 6),
+        0x81 => entries::branch(Condition::NoCarry, true, 8),
+        0x82 => entries::alu(Operation::Adc, high, 6),
+        0x83 => entries::branch(Condition::Carry, true, 8),
+        0x84 => entries::alu(Operation::Lda, high, 5),
+        0x85 => entries::branch(Condition::NoHalf, true, 8),
+        0x86 => entries::alu(Operation::Cpa, high, 6),
+        0x87 => entries::branch(Condition::Half, true, 8),
         0x88 => Decoded::Listed(Instruction::Lop, 8),
-        0x89 => Decoded::Listed(Instruction::Branch(Condition::NotZero, true), 8),
+        0x89 => entries::branch(Condition::NotZero, true, 8),
         0x8a => Decoded::Listed(Instruction::Rti, 14),
-        0x8b => Decoded::Listed(Instruction::Branch(Condition::Zero, true), 8),
-        0x8c => Decoded::Listed(Alu(Operation::Dca, Place::Pointer(X, Page::Me0)), 15),
-        0x8d => Decoded::Listed(Instruction::Branch(Condition::NoOverflow, true), 8),
-        0x8e => Decoded::Listed(Instruction::Branch(Condition::Always, true), 6),
-        0x8f => Decoded::Listed(Instruction::Branch(Condition::Overflow, true), 8),
+        0x8b => entries::branch(Condition::Zero, true, 8),
+        0x8c => entries::alu(Operation::Dca, Place::Pointer(X, Page::Me0), 15),
+        0x8d => entries::branch(Condition::NoOverflow, true, 8),
+        0x8e => entries::branch(Condition::Always, true, 6),
+        0x8f => entries::branch(Condition::Overflow, true, 8),
         _ => row_9(byte),
     }
 }
@@ -221,22 +234,23 @@ fn row_8(byte: u8) -> Decoded
 fn row_9(byte: u8) -> Decoded
     ensures { λ d. ⌜ d ≡ chained (drop 9 rows) 9 byte ⌝ }
 {
+    let high = Place::Half(Half::High(Y));
     match byte {
-        0x90 => Decoded::Listed(Alu(Operation::Sbc, Place::Half(Half::High(Y))), 6),
-        0x91 => Decoded::Listed(Instruction::Branch(Condition::NoCarry, false), 8),
-        0x92 => Decoded::Listed(Alu(Operation::Adc, Place::Half(Half::High(Y))), 6),
-        0x93 => Decoded::Listed(Instruction::Branch(Condition::Carry, false), 8),
-        0x94 => Decoded::Listed(Alu(Operation::Lda, Place::Half(Half::High(Y))), 5),
-        0x95 => Decoded::Listed(Instruction::Branch(Condition::NoHalf, false), 8),
-        0x96 => Decoded::Listed(Alu(Operation::Cpa, Place::Half(Half::High(Y))), 6),
-        0x97 => Decoded::Listed(Instruction::Branch(Condition::Half, false), 8),
-        0x99 => Decoded::Listed(Instruction::Branch(Condition::NotZero, false), 8),
+        0x90 => entries::alu(Operation::Sbc, high, 6),
+        0x91 => entries::branch(Condition::NoCarry, false, 8),
+        0x92 => entries::alu(Operation::Adc, high, 6),
+        0x93 => entries::branch(Condition::Carry, false, 8),
+        0x94 => entries::alu(Operation::Lda, high, 5),
+        0x95 => entries::branch(Condition::NoHalf, false, 8),
+        0x96 => entries::alu(Operation::Cpa, high, 6),
+        0x97 => entries::branch(Condition::Half, false, 8),
+        0x99 => entries::branch(Condition::NotZero, false, 8),
         0x9a => Decoded::Listed(Instruction::Rtn, 11),
-        0x9b => Decoded::Listed(Instruction::Branch(Condition::Zero, false), 8),
-        0x9c => Decoded::Listed(Alu(Operation::Dca, Place::Pointer(Y, Page::Me0)), 15),
-        0x9d => Decoded::Listed(Instruction::Branch(Condition::NoOverflow, false), 8),
-        0x9e => Decoded::Listed(Instruction::Branch(Condition::Always, false), 6),
-        0x9f => Decoded::Listed(Instruction::Branch(Condition::Overflow, false), 8),
+        0x9b => entries::branch(Condition::Zero, false, 8),
+        0x9c => entries::alu(Operation::Dca, Place::Pointer(Y, Page::Me0), 15),
+        0x9d => entries::branch(Condition::NoOverflow, false, 8),
+        0x9e => entries::branch(Condition::Always, false, 6),
+        0x9f => entries::branch(Condition::Overflow, false, 8),
         _ => row_a(byte),
     }
 }
@@ -245,23 +259,25 @@ fn row_9(byte: u8) -> Decoded
 fn row_a(byte: u8) -> Decoded
     ensures { λ d. ⌜ d ≡ chained (drop 10 rows) 10 byte ⌝ }
 {
+    let high = Place::Half(Half::High(U));
+    let fixed = Place::Fixed(Page::Me0);
     match byte {
-        0xa0 => Decoded::Listed(Alu(Operation::Sbc, Place::Half(Half::High(U))), 6),
-        0xa1 => Decoded::Listed(Alu(Operation::Sbc, Place::Fixed(Page::Me0)), 13),
-        0xa2 => Decoded::Listed(Alu(Operation::Adc, Place::Half(Half::High(U))), 6),
-        0xa3 => Decoded::Listed(Alu(Operation::Adc, Place::Fixed(Page::Me0)), 13),
-        0xa4 => Decoded::Listed(Alu(Operation::Lda, Place::Half(Half::High(U))), 5),
-        0xa5 => Decoded::Listed(Alu(Operation::Lda, Place::Fixed(Page::Me0)), 12),
-        0xa6 => Decoded::Listed(Alu(Operation::Cpa, Place::Half(Half::High(U))), 6),
-        0xa7 => Decoded::Listed(Alu(Operation::Cpa, Place::Fixed(Page::Me0)), 13),
-        0xa8 => Decoded::Listed(Instruction::Signal(Signal::Pv, true), 4),
-        0xa9 => Decoded::Listed(Alu(Operation::And, Place::Fixed(Page::Me0)), 13),
+        0xa0 => entries::alu(Operation::Sbc, high, 6),
+        0xa1 => entries::alu(Operation::Sbc, fixed, 13),
+        0xa2 => entries::alu(Operation::Adc, high, 6),
+        0xa3 => entries::alu(Operation::Adc, fixed, 13),
+        0xa4 => entries::alu(Operation::Lda, high, 5),
+        0xa5 => entries::alu(Operation::Lda, fixed, 12),
+        0xa6 => entries::alu(Operation::Cpa, high, 6),
+        0xa7 => entries::alu(Operation::Cpa, fixed, 13),
+        0xa8 => entries::signal(Signal::Pv, true, 4),
+        0xa9 => entries::alu(Operation::And, fixed, 13),
         0xaa => Decoded::Listed(Instruction::LoadS, 12),
-        0xab => Decoded::Listed(Alu(Operation::Ora, Place::Fixed(Page::Me0)), 13),
-        0xac => Decoded::Listed(Alu(Operation::Dca, Place::Pointer(U, Page::Me0)), 15),
-        0xad => Decoded::Listed(Alu(Operation::Eor, Place::Fixed(Page::Me0)), 13),
-        0xae => Decoded::Listed(Instruction::Sta(Place::Fixed(Page::Me0)), 12),
-        0xaf => Decoded::Listed(Alu(Operation::Bit, Place::Fixed(Page::Me0)), 13),
+        0xab => entries::alu(Operation::Ora, fixed, 13),
+        0xac => entries::alu(Operation::Dca, Place::Pointer(U, Page::Me0), 15),
+        0xad => entries::alu(Operation::Eor, fixed, 13),
+        0xae => entries::sta(fixed, 12),
+        0xaf => entries::alu(Operation::Bit, fixed, 13),
         _ => row_b(byte),
     }
 }
@@ -270,18 +286,19 @@ fn row_a(byte: u8) -> Decoded
 fn row_b(byte: u8) -> Decoded
     ensures { λ d. ⌜ d ≡ chained (drop 11 rows) 11 byte ⌝ }
 {
+    let in_code = Place::InCode;
     match byte {
-        0xb1 => Decoded::Listed(Alu(Operation::Sbc, Place::InCode), 7),
-        0xb3 => Decoded::Listed(Alu(Operation::Adc, Place::InCode), 7),
-        0xb5 => Decoded::Listed(Alu(Operation::Lda, Place::InCode), 6),
-        0xb7 => Decoded::Listed(Alu(Operation::Cpa, Place::InCode), 7),
-        0xb8 => Decoded::Listed(Instruction::Signal(Signal::Pv, false), 4),
-        0xb9 => Decoded::Listed(Alu(Operation::And, Place::InCode), 7),
+        0xb1 => entries::alu(Operation::Sbc, in_code, 7),
+        0xb3 => entries::alu(Operation::Adc, in_code, 7),
+        0xb5 => entries::alu(Operation::Lda, in_code, 6),
+        0xb7 => entries::alu(Operation::Cpa, in_code, 7),
+        0xb8 => entries::signal(Signal::Pv, false, 4),
+        0xb9 => entries::alu(Operation::And, in_code, 7),
         0xba => Decoded::Listed(Instruction::Jmp, 12),
-        0xbb => Decoded::Listed(Alu(Operation::Ora, Place::InCode), 7),
-        0xbd => Decoded::Listed(Alu(Operation::Eor, Place::InCode), 7),
+        0xbb => entries::alu(Operation::Ora, in_code, 7),
+        0xbd => entries::alu(Operation::Eor, in_code, 7),
         0xbe => Decoded::Listed(Instruction::Sjp, 19),
-        0xbf => Decoded::Listed(Alu(Operation::Bit, Place::InCode), 7),
+        0xbf => entries::alu(Operation::Bit, in_code, 7),
         _ => row_c(byte),
     }
 }
@@ -292,22 +309,22 @@ fn row_c(byte: u8) -> Decoded
     ensures { λ d. ⌜ d ≡ chained (drop 12 rows) 12 byte ⌝ }
 {
     match byte {
-        0xc0 => Decoded::Listed(Instruction::Vector(192), 4),
-        0xc1 => Decoded::Listed(Instruction::VectorIf(Condition::NoCarry), 8),
-        0xc2 => Decoded::Listed(Instruction::Vector(194), 4),
-        0xc3 => Decoded::Listed(Instruction::VectorIf(Condition::Carry), 8),
-        0xc4 => Decoded::Listed(Instruction::Vector(196), 4),
-        0xc5 => Decoded::Listed(Instruction::VectorIf(Condition::NoHalf), 8),
-        0xc6 => Decoded::Listed(Instruction::Vector(198), 4),
-        0xc7 => Decoded::Listed(Instruction::VectorIf(Condition::Half), 8),
-        0xc8 => Decoded::Listed(Instruction::Vector(200), 4),
-        0xc9 => Decoded::Listed(Instruction::VectorIf(Condition::NotZero), 8),
-        0xca => Decoded::Listed(Instruction::Vector(202), 4),
-        0xcb => Decoded::Listed(Instruction::VectorIf(Condition::Zero), 8),
-        0xcc => Decoded::Listed(Instruction::Vector(204), 4),
-        0xcd => Decoded::Listed(Instruction::VectorIf(Condition::Always), 7),
-        0xce => Decoded::Listed(Instruction::Vector(206), 4),
-        0xcf => Decoded::Listed(Instruction::VectorIf(Condition::Overflow), 8),
+        0xc0 => entries::vector(192, 4),
+        0xc1 => entries::vector_if(Condition::NoCarry, 8),
+        0xc2 => entries::vector(194, 4),
+        0xc3 => entries::vector_if(Condition::Carry, 8),
+        0xc4 => entries::vector(196, 4),
+        0xc5 => entries::vector_if(Condition::NoHalf, 8),
+        0xc6 => entries::vector(198, 4),
+        0xc7 => entries::vector_if(Condition::Half, 8),
+        0xc8 => entries::vector(200, 4),
+        0xc9 => entries::vector_if(Condition::NotZero, 8),
+        0xca => entries::vector(202, 4),
+        0xcb => entries::vector_if(Condition::Zero, 8),
+        0xcc => entries::vector(204, 4),
+        0xcd => entries::vector_if(Condition::Always, 7),
+        0xce => entries::vector(206, 4),
+        0xcf => entries::vector_if(Condition::Overflow, 8),
         _ => row_d(byte),
     }
 }
@@ -316,23 +333,24 @@ fn row_c(byte: u8) -> Decoded
 fn row_d(byte: u8) -> Decoded
     ensures { λ d. ⌜ d ≡ chained (drop 13 rows) 13 byte ⌝ }
 {
+    let at = Place::Pointer(X, Page::Me0);
     match byte {
-        0xd0 => Decoded::Listed(Instruction::Vector(208), 4),
-        0xd1 => Decoded::Listed(Instruction::Accumulator(Accumulator::Ror), 9),
-        0xd2 => Decoded::Listed(Instruction::Vector(210), 4),
-        0xd3 => Decoded::Listed(Instruction::Drr(Place::Pointer(X, Page::Me0)), 12),
-        0xd4 => Decoded::Listed(Instruction::Vector(212), 4),
-        0xd5 => Decoded::Listed(Instruction::Accumulator(Accumulator::Shr), 9),
-        0xd6 => Decoded::Listed(Instruction::Vector(214), 4),
-        0xd7 => Decoded::Listed(Instruction::Drl(Place::Pointer(X, Page::Me0)), 12),
-        0xd8 => Decoded::Listed(Instruction::Vector(216), 4),
-        0xd9 => Decoded::Listed(Instruction::Accumulator(Accumulator::Shl), 6),
-        0xda => Decoded::Listed(Instruction::Vector(218), 4),
-        0xdb => Decoded::Listed(Instruction::Accumulator(Accumulator::Rol), 8),
-        0xdc => Decoded::Listed(Instruction::Vector(220), 4),
-        0xdd => Decoded::Listed(Instruction::Accumulator(Accumulator::Inc), 5),
-        0xde => Decoded::Listed(Instruction::Vector(222), 4),
-        0xdf => Decoded::Listed(Instruction::Accumulator(Accumulator::Dec), 5),
+        0xd0 => entries::vector(208, 4),
+        0xd1 => entries::accumulator(Accumulator::Ror, 9),
+        0xd2 => entries::vector(210, 4),
+        0xd3 => Decoded::Listed(Instruction::Drr(at), 12),
+        0xd4 => entries::vector(212, 4),
+        0xd5 => entries::accumulator(Accumulator::Shr, 9),
+        0xd6 => entries::vector(214, 4),
+        0xd7 => Decoded::Listed(Instruction::Drl(at), 12),
+        0xd8 => entries::vector(216, 4),
+        0xd9 => entries::accumulator(Accumulator::Shl, 6),
+        0xda => entries::vector(218, 4),
+        0xdb => entries::accumulator(Accumulator::Rol, 8),
+        0xdc => entries::vector(220, 4),
+        0xdd => entries::accumulator(Accumulator::Inc, 5),
+        0xde => entries::vector(222, 4),
+        0xdf => entries::accumulator(Accumulator::Dec, 5),
         _ => row_e(byte),
     }
 }
@@ -341,21 +359,22 @@ fn row_d(byte: u8) -> Decoded
 fn row_e(byte: u8) -> Decoded
     ensures { λ d. ⌜ d ≡ chained (drop 14 rows) 14 byte ⌝ }
 {
+    let fixed = Place::Fixed(Page::Me0);
     match byte {
-        0xe0 => Decoded::Listed(Instruction::Vector(224), 4),
-        0xe1 => Decoded::Listed(Instruction::Signal(Signal::Pu, true), 4),
-        0xe2 => Decoded::Listed(Instruction::Vector(226), 4),
-        0xe3 => Decoded::Listed(Instruction::Signal(Signal::Pu, false), 4),
-        0xe4 => Decoded::Listed(Instruction::Vector(228), 4),
-        0xe6 => Decoded::Listed(Instruction::Vector(230), 4),
-        0xe8 => Decoded::Listed(Instruction::Vector(232), 4),
-        0xe9 => Decoded::Listed(Memory(Change::And, Place::Fixed(Page::Me0)), 19),
-        0xea => Decoded::Listed(Instruction::Vector(234), 4),
-        0xeb => Decoded::Listed(Memory(Change::Ora, Place::Fixed(Page::Me0)), 19),
-        0xec => Decoded::Listed(Instruction::Vector(236), 4),
-        0xed => Decoded::Listed(Instruction::Bii(Place::Fixed(Page::Me0)), 16),
-        0xee => Decoded::Listed(Instruction::Vector(238), 4),
-        0xef => Decoded::Listed(Memory(Change::Add, Place::Fixed(Page::Me0)), 19),
+        0xe0 => entries::vector(224, 4),
+        0xe1 => entries::signal(Signal::Pu, true, 4),
+        0xe2 => entries::vector(226, 4),
+        0xe3 => entries::signal(Signal::Pu, false, 4),
+        0xe4 => entries::vector(228, 4),
+        0xe6 => entries::vector(230, 4),
+        0xe8 => entries::vector(232, 4),
+        0xe9 => entries::memory(Change::And, fixed, 19),
+        0xea => entries::vector(234, 4),
+        0xeb => entries::memory(Change::Ora, fixed, 19),
+        0xec => entries::vector(236, 4),
+        0xed => entries::bii(fixed, 16),
+        0xee => entries::vector(238, 4),
+        0xef => entries::memory(Change::Add, fixed, 19),
         _ => row_f(byte),
     }
 }
@@ -366,15 +385,15 @@ fn row_f(byte: u8) -> Decoded
     ensures { λ d. ⌜ d ≡ chained (drop 15 rows) 15 byte ⌝ }
 {
     match byte {
-        0xf0 => Decoded::Listed(Instruction::Vector(240), 4),
-        0xf1 => Decoded::Listed(Instruction::Accumulator(Accumulator::Aex), 6),
-        0xf2 => Decoded::Listed(Instruction::Vector(242), 4),
-        0xf4 => Decoded::Listed(Instruction::Vector(244), 4),
+        0xf0 => entries::vector(240, 4),
+        0xf1 => entries::accumulator(Accumulator::Aex, 6),
+        0xf2 => entries::vector(242, 4),
+        0xf4 => entries::vector(244, 4),
         0xf5 => Decoded::Listed(Instruction::Tin, 7),
-        0xf6 => Decoded::Listed(Instruction::Vector(246), 4),
+        0xf6 => entries::vector(246, 4),
         0xf7 => Decoded::Listed(Instruction::Cin, 7),
-        0xf9 => Decoded::Listed(Instruction::Signal(Signal::Carry, false), 4),
-        0xfb => Decoded::Listed(Instruction::Signal(Signal::Carry, true), 4),
+        0xf9 => entries::signal(Signal::Carry, false, 4),
+        0xfb => entries::signal(Signal::Carry, true, 4),
         _ => Decoded::Unlisted,
     }
 }

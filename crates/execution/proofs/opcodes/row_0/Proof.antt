@@ -16,8 +16,15 @@ pub row-0-spec : {M : Type 1} → statement M
 unfolding chained
 row-0-spec =
     tie.close
-    (tie.spec (λ c κs. search needs) (λ c. rw (c .match .keys1)) (λ c. rw (c .match .keys2)) (λ c. rw (c .match .keys3))
-    (λ c. rw (c .match .keys4)) (λ c. rw (c .match .keys5)) (λ c. rw (c .match .keys6)) (λ c. rw (c .match .keys7))
-    (λ c. rw (c .match .keys8)) (λ c. rw (c .match .keys9)) (λ c. rw (c .match .keys10)) (λ c. rw (c .match .keys11))
-    (λ c. rw (c .match .keys12)) (λ c. rw (c .match .keys13)) (λ c. rw (c .match .keys14)) (λ c. rw (c .match .keys15))
-    (λ c. rw (c .match .keys16)) unlisted)
+    (tie.spec (λ c κs. search needs) (λ c κs. search needs) (λ c κs. search needs)
+    (λ c κs. search needs) (λ c κs. search needs) (λ c κs. search needs)
+    (λ c κs. search needs) (λ c κs. search needs) (λ c κs. search needs)
+    (λ c κs. search needs) (λ c κs. search needs) (λ c κs. search needs)
+    (λ c κs. search needs) (λ c κs. search needs) (λ c κs. search needs)
+    (λ c κs. search needs) (λ c κs. search needs) (λ c. rw (c .before .match .keys1) (c .alu .ensures))
+    (λ c. rw (c .before .match .keys2) (c .alu2 .ensures)) (λ c. rw (c .before .match .keys3) (c .alu3 .ensures)) (λ c. rw (c .before .match .keys4) (c .alu4 .ensures))
+    (λ c. rw (c .before .match .keys5) (c .alu5 .ensures)) (λ c. rw (c .before .match .keys6) (c .alu6 .ensures)) (λ c. rw (c .before .match .keys7) (c .alu7 .ensures))
+    (λ c. rw (c .before .match .keys8) (c .alu8 .ensures)) (λ c. rw (c .before .match .keys9) (c .sta .ensures)) (λ c. rw (c .before .match .keys10) (c .alu9 .ensures))
+    (λ c. rw (c .before .match .keys11) (c .sta2 .ensures)) (λ c. rw (c .before .match .keys12) (c .alu10 .ensures)) (λ c. rw (c .before .match .keys13) (c .alu11 .ensures))
+    (λ c. rw (c .before .match .keys14) (c .alu12 .ensures)) (λ c. rw (c .before .match .keys15) (c .sta3 .ensures)) (λ c. rw (c .before .match .keys16) (c .alu13 .ensures))
+    unlisted)

@@ -16,8 +16,15 @@ pub row-4-spec : {M : Type 1} → statement M
 unfolding chained
 row-4-spec =
     tie.close
-    (tie.spec (λ c κs. search needs) (λ c. rw (c .match .keys1)) (λ c. rw (c .match .keys2)) (λ c. rw (c .match .keys3))
-    (λ c. rw (c .match .keys4)) (λ c. rw (c .match .keys5)) (λ c. rw (c .match .keys6)) (λ c. rw (c .match .keys7))
-    (λ c. rw (c .match .keys8)) (λ c. rw (c .match .keys9)) (λ c. rw (c .match .keys10)) (λ c. rw (c .match .keys11))
-    (λ c. rw (c .match .keys12)) (λ c. rw (c .match .keys13)) (λ c. rw (c .match .keys14)) (λ c. rw (c .match .keys15))
-    (λ c. rw (c .match .keys16)) unlisted)
+    (tie.spec (λ c κs. search needs) (λ c κs. search needs) (λ c κs. search needs)
+    (λ c κs. search needs) (λ c κs. search needs) (λ c κs. search needs)
+    (λ c κs. search needs) (λ c κs. search needs) (λ c κs. search needs)
+    (λ c κs. search needs) (λ c κs. search needs) (λ c κs. search needs)
+    (λ c κs. search needs) (λ c κs. search needs) (λ c κs. search needs)
+    (λ c κs. search needs) (λ c κs. search needs) (λ c. rw (c .before .match .keys1) (c .inc .ensures))
+    (λ c. rw (c .before .match .keys2) (c .sin .ensures)) (λ c. rw (c .before .match .keys3) (c .dec .ensures)) (λ c. rw (c .before .match .keys4) (c .sde .ensures))
+    (λ c. rw (c .before .match .keys5) (c .inc-word .ensures)) (λ c. rw (c .before .match .keys6) (c .lin .ensures)) (λ c. rw (c .before .match .keys7) (c .dec-word .ensures))
+    (λ c. rw (c .before .match .keys8) (c .lde .ensures)) (λ c. rw (c .before .match .keys9) (c .load .ensures)) (λ c. rw (c .before .match .keys10) (c .memory .ensures))
+    (λ c. rw (c .before .match .keys11) (c .load2 .ensures)) (λ c. rw (c .before .match .keys12) (c .memory2 .ensures)) (λ c. rw (c .before .match .keys13) (c .compare .ensures))
+    (λ c. rw (c .before .match .keys14) (c .bii .ensures)) (λ c. rw (c .before .match .keys15) (c .compare2 .ensures)) (λ c. rw (c .before .match .keys16) (c .memory3 .ensures))
+    unlisted)

@@ -16,4 +16,5 @@ pub row-7-spec : {M : Type 1} → statement M
 unfolding chained
 row-7-spec =
     tie.close
-    (tie.spec (λ c κs. search needs) (λ c. rw (c .match .keys1)) unlisted)
+    (tie.spec (λ c κs. search needs) (λ c κs. search needs) (λ c. rw (c .before .match .keys1) (c .dec .ensures))
+    unlisted)

@@ -16,7 +16,14 @@ pub row-9-spec : {M : Type 1} → statement M
 unfolding chained
 row-9-spec =
     tie.close
-    (tie.spec (λ c κs. search needs) (λ c. rw (c .match .keys1)) (λ c. rw (c .match .keys2)) (λ c. rw (c .match .keys3))
-    (λ c. rw (c .match .keys4)) (λ c. rw (c .match .keys5)) (λ c. rw (c .match .keys6)) (λ c. rw (c .match .keys7))
-    (λ c. rw (c .match .keys8)) (λ c. rw (c .match .keys9)) (λ c. rw (c .match .keys10)) (λ c. rw (c .match .keys11))
-    (λ c. rw (c .match .keys12)) (λ c. rw (c .match .keys13)) (λ c. rw (c .match .keys14)) (λ c. rw (c .match .keys15)) unlisted)
+    (tie.spec (λ c κs. search needs) (λ c κs. search needs) (λ c κs. search needs)
+    (λ c κs. search needs) (λ c κs. search needs) (λ c κs. search needs)
+    (λ c κs. search needs) (λ c κs. search needs) (λ c κs. search needs)
+    (λ c κs. search needs) (λ c κs. search needs) (λ c κs. search needs)
+    (λ c κs. search needs) (λ c κs. search needs) (λ c κs. search needs)
+    (λ c. rw (c .before .match .keys1) (c .alu .ensures)) (λ c. rw (c .before .match .keys2) (c .branch .ensures)) (λ c. rw (c .before .match .keys3) (c .alu2 .ensures))
+    (λ c. rw (c .before .match .keys4) (c .branch2 .ensures)) (λ c. rw (c .before .match .keys5) (c .alu3 .ensures)) (λ c. rw (c .before .match .keys6) (c .branch3 .ensures))
+    (λ c. rw (c .before .match .keys7) (c .alu4 .ensures)) (λ c. rw (c .before .match .keys8) (c .branch4 .ensures)) (λ c. rw (c .before .match .keys9) (c .branch5 .ensures))
+    (λ c. rw (c .match .keys10)) (λ c. rw (c .before .match .keys11) (c .branch6 .ensures)) (λ c. rw (c .before .match .keys12) (c .alu5 .ensures))
+    (λ c. rw (c .before .match .keys13) (c .branch7 .ensures)) (λ c. rw (c .before .match .keys14) (c .branch8 .ensures)) (λ c. rw (c .before .match .keys15) (c .branch9 .ensures))
+    unlisted)

@@ -16,6 +16,11 @@ pub row-b-spec : {M : Type 1} → statement M
 unfolding chained
 row-b-spec =
     tie.close
-    (tie.spec (λ c κs. search needs) (λ c. rw (c .match .keys1)) (λ c. rw (c .match .keys2)) (λ c. rw (c .match .keys3))
-    (λ c. rw (c .match .keys4)) (λ c. rw (c .match .keys5)) (λ c. rw (c .match .keys6)) (λ c. rw (c .match .keys7))
-    (λ c. rw (c .match .keys8)) (λ c. rw (c .match .keys9)) (λ c. rw (c .match .keys10)) (λ c. rw (c .match .keys11)) unlisted)
+    (tie.spec (λ c κs. search needs) (λ c κs. search needs) (λ c κs. search needs)
+    (λ c κs. search needs) (λ c κs. search needs) (λ c κs. search needs)
+    (λ c κs. search needs) (λ c κs. search needs) (λ c κs. search needs)
+    (λ c κs. search needs) (λ c. rw (c .before .match .keys1) (c .alu .ensures)) (λ c. rw (c .before .match .keys2) (c .alu2 .ensures))
+    (λ c. rw (c .before .match .keys3) (c .alu3 .ensures)) (λ c. rw (c .before .match .keys4) (c .alu4 .ensures)) (λ c. rw (c .before .match .keys5) (c .signal .ensures))
+    (λ c. rw (c .before .match .keys6) (c .alu5 .ensures)) (λ c. rw (c .match .keys7)) (λ c. rw (c .before .match .keys8) (c .alu6 .ensures))
+    (λ c. rw (c .before .match .keys9) (c .alu7 .ensures)) (λ c. rw (c .match .keys10)) (λ c. rw (c .before .match .keys11) (c .alu8 .ensures))
+    unlisted)

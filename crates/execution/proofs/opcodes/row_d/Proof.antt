@@ -16,8 +16,14 @@ pub row-d-spec : {M : Type 1} → statement M
 unfolding chained
 row-d-spec =
     tie.close
-    (tie.spec (λ c κs. search needs) (λ c. rw (c .match .keys1)) (λ c. rw (c .match .keys2)) (λ c. rw (c .match .keys3))
-    (λ c. rw (c .match .keys4)) (λ c. rw (c .match .keys5)) (λ c. rw (c .match .keys6)) (λ c. rw (c .match .keys7))
-    (λ c. rw (c .match .keys8)) (λ c. rw (c .match .keys9)) (λ c. rw (c .match .keys10)) (λ c. rw (c .match .keys11))
-    (λ c. rw (c .match .keys12)) (λ c. rw (c .match .keys13)) (λ c. rw (c .match .keys14)) (λ c. rw (c .match .keys15))
-    (λ c. rw (c .match .keys16)) unlisted)
+    (tie.spec (λ c κs. search needs) (λ c κs. search needs) (λ c κs. search needs)
+    (λ c κs. search needs) (λ c κs. search needs) (λ c κs. search needs)
+    (λ c κs. search needs) (λ c κs. search needs) (λ c κs. search needs)
+    (λ c κs. search needs) (λ c κs. search needs) (λ c κs. search needs)
+    (λ c κs. search needs) (λ c κs. search needs) (λ c κs. search needs)
+    (λ c. rw (c .before .match .keys1) (c .vector .ensures)) (λ c. rw (c .before .match .keys2) (c .accumulator .ensures)) (λ c. rw (c .before .match .keys3) (c .vector2 .ensures))
+    (λ c. rw (c .match .keys4)) (λ c. rw (c .before .match .keys5) (c .vector3 .ensures)) (λ c. rw (c .before .match .keys6) (c .accumulator2 .ensures))
+    (λ c. rw (c .before .match .keys7) (c .vector4 .ensures)) (λ c. rw (c .match .keys8)) (λ c. rw (c .before .match .keys9) (c .vector5 .ensures))
+    (λ c. rw (c .before .match .keys10) (c .accumulator3 .ensures)) (λ c. rw (c .before .match .keys11) (c .vector6 .ensures)) (λ c. rw (c .before .match .keys12) (c .accumulator4 .ensures))
+    (λ c. rw (c .before .match .keys13) (c .vector7 .ensures)) (λ c. rw (c .before .match .keys14) (c .accumulator5 .ensures)) (λ c. rw (c .before .match .keys15) (c .vector8 .ensures))
+    (λ c. rw (c .before .match .keys16) (c .accumulator6 .ensures)) unlisted)

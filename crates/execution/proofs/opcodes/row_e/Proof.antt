@@ -16,7 +16,13 @@ pub row-e-spec : {M : Type 1} → statement M
 unfolding chained
 row-e-spec =
     tie.close
-    (tie.spec (λ c κs. search needs) (λ c. rw (c .match .keys1)) (λ c. rw (c .match .keys2)) (λ c. rw (c .match .keys3))
-    (λ c. rw (c .match .keys4)) (λ c. rw (c .match .keys5)) (λ c. rw (c .match .keys6)) (λ c. rw (c .match .keys7))
-    (λ c. rw (c .match .keys8)) (λ c. rw (c .match .keys9)) (λ c. rw (c .match .keys10)) (λ c. rw (c .match .keys11))
-    (λ c. rw (c .match .keys12)) (λ c. rw (c .match .keys13)) (λ c. rw (c .match .keys14)) unlisted)
+    (tie.spec (λ c κs. search needs) (λ c κs. search needs) (λ c κs. search needs)
+    (λ c κs. search needs) (λ c κs. search needs) (λ c κs. search needs)
+    (λ c κs. search needs) (λ c κs. search needs) (λ c κs. search needs)
+    (λ c κs. search needs) (λ c κs. search needs) (λ c κs. search needs)
+    (λ c κs. search needs) (λ c κs. search needs) (λ c κs. search needs)
+    (λ c. rw (c .before .match .keys1) (c .vector .ensures)) (λ c. rw (c .before .match .keys2) (c .signal .ensures)) (λ c. rw (c .before .match .keys3) (c .vector2 .ensures))
+    (λ c. rw (c .before .match .keys4) (c .signal2 .ensures)) (λ c. rw (c .before .match .keys5) (c .vector3 .ensures)) (λ c. rw (c .before .match .keys6) (c .vector4 .ensures))
+    (λ c. rw (c .before .match .keys7) (c .vector5 .ensures)) (λ c. rw (c .before .match .keys8) (c .memory .ensures)) (λ c. rw (c .before .match .keys9) (c .vector6 .ensures))
+    (λ c. rw (c .before .match .keys10) (c .memory2 .ensures)) (λ c. rw (c .before .match .keys11) (c .vector7 .ensures)) (λ c. rw (c .before .match .keys12) (c .bii .ensures))
+    (λ c. rw (c .before .match .keys13) (c .vector8 .ensures)) (λ c. rw (c .before .match .keys14) (c .memory3 .ensures)) unlisted)

@@ -5,6 +5,7 @@ use lib.ListN.{getD, drop}
 use Rattle.execution.specs.Chain.{chained}
 use Rattle.execution.specs.Opcodes.{rows}
 use Rattle.execution.proofs.Table.{passed-over, nothing}
+use borrow.Author.Needs.{needs}
 use Rattle.execution.proofs.opcodes.row_f.Statement.{statement}
 use Rattle.execution.proofs.opcodes.row_f.Tie as tie
 
@@ -15,6 +16,9 @@ pub row-f-spec : {M : Type 1} → statement M
 unfolding chained
 row-f-spec =
     tie.close
-    (tie.spec (λ c. rw (c .match .keys1)) (λ c. rw (c .match .keys2)) (λ c. rw (c .match .keys3)) (λ c. rw (c .match .keys4))
-    (λ c. rw (c .match .keys5)) (λ c. rw (c .match .keys6)) (λ c. rw (c .match .keys7)) (λ c. rw (c .match .keys8))
-    (λ c. rw (c .match .keys9)) unlisted)
+    (tie.spec (λ c κs. search needs) (λ c κs. search needs) (λ c κs. search needs)
+    (λ c κs. search needs) (λ c κs. search needs) (λ c κs. search needs)
+    (λ c κs. search needs) (λ c. rw (c .before .match .keys1) (c .vector .ensures)) (λ c. rw (c .before .match .keys2) (c .accumulator .ensures))
+    (λ c. rw (c .before .match .keys3) (c .vector2 .ensures)) (λ c. rw (c .before .match .keys4) (c .vector3 .ensures)) (λ c. rw (c .match .keys5))
+    (λ c. rw (c .before .match .keys6) (c .vector4 .ensures)) (λ c. rw (c .match .keys7)) (λ c. rw (c .before .match .keys8) (c .signal .ensures))
+    (λ c. rw (c .before .match .keys9) (c .signal2 .ensures)) unlisted)

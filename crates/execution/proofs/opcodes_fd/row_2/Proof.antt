@@ -16,7 +16,12 @@ pub row-2-spec : {M : Type 1} → statement M
 unfolding chained
 row-2-spec =
     tie.close
-    (tie.spec (λ c κs. search needs) (λ c. rw (c .match .keys1)) (λ c. rw (c .match .keys2)) (λ c. rw (c .match .keys3))
-    (λ c. rw (c .match .keys4)) (λ c. rw (c .match .keys5)) (λ c. rw (c .match .keys6)) (λ c. rw (c .match .keys7))
-    (λ c. rw (c .match .keys8)) (λ c. rw (c .match .keys9)) (λ c. rw (c .match .keys10)) (λ c. rw (c .match .keys11))
-    (λ c. rw (c .match .keys12)) unlisted)
+    (tie.spec (λ c κs. search needs) (λ c κs. search needs) (λ c κs. search needs)
+    (λ c κs. search needs) (λ c κs. search needs) (λ c κs. search needs)
+    (λ c κs. search needs) (λ c κs. search needs) (λ c κs. search needs)
+    (λ c κs. search needs) (λ c κs. search needs) (λ c κs. search needs)
+    (λ c κs. search needs) (λ c. rw (c .before .match .keys1) (c .alu .ensures)) (λ c. rw (c .before .match .keys2) (c .alu2 .ensures))
+    (λ c. rw (c .before .match .keys3) (c .alu3 .ensures)) (λ c. rw (c .before .match .keys4) (c .alu4 .ensures)) (λ c. rw (c .before .match .keys5) (c .to-x .ensures))
+    (λ c. rw (c .before .match .keys6) (c .alu5 .ensures)) (λ c. rw (c .before .match .keys7) (c .pop-word .ensures)) (λ c. rw (c .before .match .keys8) (c .alu6 .ensures))
+    (λ c. rw (c .before .match .keys9) (c .alu7 .ensures)) (λ c. rw (c .before .match .keys10) (c .alu8 .ensures)) (λ c. rw (c .before .match .keys11) (c .sta .ensures))
+    (λ c. rw (c .before .match .keys12) (c .alu9 .ensures)) unlisted)

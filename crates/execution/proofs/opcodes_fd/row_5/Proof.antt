@@ -16,6 +16,10 @@ pub row-5-spec : {M : Type 1} → statement M
 unfolding chained
 row-5-spec =
     tie.close
-    (tie.spec (λ c κs. search needs) (λ c. rw (c .match .keys1)) (λ c. rw (c .match .keys2)) (λ c. rw (c .match .keys3))
-    (λ c. rw (c .match .keys4)) (λ c. rw (c .match .keys5)) (λ c. rw (c .match .keys6)) (λ c. rw (c .match .keys7))
-    (λ c. rw (c .match .keys8)) (λ c. rw (c .match .keys9)) unlisted)
+    (tie.spec (λ c κs. search needs) (λ c κs. search needs) (λ c κs. search needs)
+    (λ c κs. search needs) (λ c κs. search needs) (λ c κs. search needs)
+    (λ c κs. search needs) (λ c κs. search needs) (λ c κs. search needs)
+    (λ c κs. search needs) (λ c. rw (c .before .match .keys1) (c .inc .ensures)) (λ c. rw (c .before .match .keys2) (c .dec .ensures))
+    (λ c. rw (c .before .match .keys3) (c .to-x .ensures)) (λ c. rw (c .before .match .keys4) (c .memory .ensures)) (λ c. rw (c .before .match .keys5) (c .from-x .ensures))
+    (λ c. rw (c .before .match .keys6) (c .memory2 .ensures)) (λ c. rw (c .before .match .keys7) (c .bii .ensures)) (λ c. rw (c .before .match .keys8) (c .from-x2 .ensures))
+    (λ c. rw (c .before .match .keys9) (c .memory3 .ensures)) unlisted)

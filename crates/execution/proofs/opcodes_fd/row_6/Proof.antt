@@ -16,5 +16,9 @@ pub row-6-spec : {M : Type 1} → statement M
 unfolding chained
 row-6-spec =
     tie.close
-    (tie.spec (λ c κs. search needs) (λ c. rw (c .match .keys1)) (λ c. rw (c .match .keys2)) (λ c. rw (c .match .keys3))
-    (λ c. rw (c .match .keys4)) (λ c. rw (c .match .keys5)) (λ c. rw (c .match .keys6)) (λ c. rw (c .match .keys7)) unlisted)
+    (tie.spec (λ c κs. search needs) (λ c κs. search needs) (λ c κs. search needs)
+    (λ c κs. search needs) (λ c κs. search needs) (λ c κs. search needs)
+    (λ c κs. search needs) (λ c κs. search needs) (λ c. rw (c .before .match .keys1) (c .inc .ensures))
+    (λ c. rw (c .before .match .keys2) (c .dec .ensures)) (λ c. rw (c .before .match .keys3) (c .memory .ensures)) (λ c. rw (c .before .match .keys4) (c .from-x .ensures))
+    (λ c. rw (c .before .match .keys5) (c .memory2 .ensures)) (λ c. rw (c .before .match .keys6) (c .bii .ensures)) (λ c. rw (c .before .match .keys7) (c .memory3 .ensures))
+    unlisted)

@@ -16,5 +16,7 @@ pub row-8-spec : {M : Type 1} → statement M
 unfolding chained
 row-8-spec =
     tie.close
-    (tie.spec (λ c κs. search needs) (λ c. rw (c .match .keys1)) (λ c. rw (c .match .keys2)) (λ c. rw (c .match .keys3))
-    (λ c. rw (c .match .keys4)) (λ c. rw (c .match .keys5)) unlisted)
+    (tie.spec (λ c κs. search needs) (λ c κs. search needs) (λ c κs. search needs)
+    (λ c κs. search needs) (λ c. rw (c .before .match .keys1) (c .signal .ensures)) (λ c. rw (c .before .match .keys2) (c .push-word .ensures))
+    (λ c. rw (c .match .keys3)) (λ c. rw (c .before .match .keys4) (c .alu .ensures)) (λ c. rw (c .match .keys5))
+    unlisted)

@@ -16,4 +16,5 @@ pub row-9-spec : {M : Type 1} → statement M
 unfolding chained
 row-9-spec =
     tie.close
-    (tie.spec (λ c κs. search needs) (λ c. rw (c .match .keys1)) (λ c. rw (c .match .keys2)) unlisted)
+    (tie.spec (λ c κs. search needs) (λ c κs. search needs) (λ c κs. search needs)
+    (λ c. rw (c .before .match .keys1) (c .push-word .ensures)) (λ c. rw (c .before .match .keys2) (c .alu .ensures)) unlisted)

@@ -16,4 +16,6 @@ pub row-b-spec : {M : Type 1} → statement M
 unfolding chained
 row-b-spec =
     tie.close
-    (tie.spec (λ c κs. search needs) (λ c. rw (c .match .keys1)) (λ c. rw (c .match .keys2)) (λ c. rw (c .match .keys3)) unlisted)
+    (tie.spec (λ c κs. search needs) (λ c κs. search needs) (λ c κs. search needs)
+    (λ c. rw (c .match .keys1)) (λ c. rw (c .before .match .keys2) (c .accumulator .ensures)) (λ c. rw (c .before .match .keys3) (c .signal .ensures))
+    unlisted)

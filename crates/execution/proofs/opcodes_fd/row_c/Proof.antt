@@ -16,5 +16,7 @@ pub row-c-spec : {M : Type 1} → statement M
 unfolding chained
 row-c-spec =
     tie.close
-    (tie.spec (λ c κs. search needs) (λ c. rw (c .match .keys1)) (λ c. rw (c .match .keys2)) (λ c. rw (c .match .keys3))
-    (λ c. rw (c .match .keys4)) (λ c. rw (c .match .keys5)) (λ c. rw (c .match .keys6)) unlisted)
+    (tie.spec (λ c κs. search needs) (λ c κs. search needs) (λ c κs. search needs)
+    (λ c κs. search needs) (λ c κs. search needs) (λ c. rw (c .before .match .keys1) (c .signal .ensures))
+    (λ c. rw (c .before .match .keys2) (c .signal2 .ensures)) (λ c. rw (c .match .keys3)) (λ c. rw (c .before .match .keys4) (c .adr .ensures))
+    (λ c. rw (c .match .keys5)) (λ c. rw (c .before .match .keys6) (c .accumulator .ensures)) unlisted)

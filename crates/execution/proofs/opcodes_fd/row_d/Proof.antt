@@ -16,5 +16,6 @@ pub row-d-spec : {M : Type 1} → statement M
 unfolding chained
 row-d-spec =
     tie.close
-    (tie.spec (λ c κs. search needs) (λ c. rw (c .match .keys1)) (λ c. rw (c .match .keys2)) (λ c. rw (c .match .keys3))
-    (λ c. rw (c .match .keys4)) unlisted)
+    (tie.spec (λ c κs. search needs) (λ c κs. search needs) (λ c κs. search needs)
+    (λ c. rw (c .match .keys1)) (λ c. rw (c .match .keys2)) (λ c. rw (c .before .match .keys3) (c .adr .ensures))
+    (λ c. rw (c .before .match .keys4) (c .accumulator .ensures)) unlisted)

@@ -5,6 +5,7 @@ use lib.ListN.{getD, drop}
 use Rattle.execution.specs.Chain.{chained}
 use Rattle.execution.specs.OpcodesFd.{rowsFd}
 use Rattle.execution.proofs.Table.{passed-over, nothing, skip}
+use borrow.Author.Needs.{needs}
 use Rattle.execution.proofs.opcodes_fd.row_e.Statement.{statement}
 use Rattle.execution.proofs.opcodes_fd.row_e.Tie as tie
 
@@ -15,5 +16,8 @@ pub row-e-spec : {M : Type 1} → statement M
 unfolding chained
 row-e-spec =
     tie.close
-    (tie.spec (λ c. rw (c .match .keys1)) (λ c. rw (c .match .keys2)) (λ c. rw (c .match .keys3)) (λ c. rw (c .match .keys4))
-    (λ c. rw (c .match .keys5)) (λ c. rw (c .match .keys6)) unlisted)
+    (tie.spec (λ c κs. search needs) (λ c κs. search needs) (λ c κs. search needs)
+    (λ c κs. search needs) (λ c κs. search needs) (λ c κs. search needs)
+    (λ c. rw (c .before .match .keys1) (c .memory .ensures)) (λ c. rw (c .before .match .keys2) (c .adr .ensures)) (λ c. rw (c .before .match .keys3) (c .memory2 .ensures))
+    (λ c. rw (c .before .match .keys4) (c .accumulator .ensures)) (λ c. rw (c .before .match .keys5) (c .bii .ensures)) (λ c. rw (c .before .match .keys6) (c .memory3 .ensures))
+    unlisted)

@@ -5,7 +5,7 @@ use Rattle.arithmetic.proofs.and.Tie as tie
 
 returns : tie.Need-returns
 unfolding andOf
-returns c = cc
+returns c = rw (c .lda .ensures)
 
 pub and-spec : {M : Type 1} → statement M
 and-spec = tie.close (tie.spec (λ c κs. search needs) returns)

@@ -5,7 +5,7 @@ use Rattle.arithmetic.proofs.eor.Tie as tie
 
 returns : tie.Need-returns
 unfolding eorOf
-returns c = cc
+returns c = rw (c .lda .ensures)
 
 pub eor-spec : {M : Type 1} → statement M
 eor-spec = tie.close (tie.spec (λ c κs. search needs) returns)

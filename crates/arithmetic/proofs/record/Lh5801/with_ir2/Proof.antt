@@ -5,7 +5,7 @@ use Rattle.arithmetic.proofs.record.Lh5801.with_ir2.Tie as tie
 
 returns : tie.Need-returns
 unfolding with-ir2
-returns c = cc
+returns c = rw (c .each .ensures)
 
 pub with-ir2-spec : {M : Type 1} → statement M
 with-ir2-spec = tie.close (tie.spec (λ c κs. search needs) returns)

@@ -5,7 +5,7 @@ use Rattle.arithmetic.proofs.record.Lh5801.with_is_halted.Tie as tie
 
 returns : tie.Need-returns
 unfolding with-is-halted
-returns c = cc
+returns c = rw (c .each .ensures)
 
 pub with-is-halted-spec : {M : Type 1} → statement M
 with-is-halted-spec = tie.close (tie.spec (λ c κs. search needs) returns)

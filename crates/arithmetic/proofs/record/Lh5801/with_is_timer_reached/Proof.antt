@@ -5,7 +5,7 @@ use Rattle.arithmetic.proofs.record.Lh5801.with_is_timer_reached.Tie as
 
 returns : tie.Need-returns
 unfolding with-is-timer-reached
-returns c = cc
+returns c = rw (c .each .ensures)
 
 pub with-is-timer-reached-spec : {M : Type 1} → statement M
 with-is-timer-reached-spec = tie.close (tie.spec (λ c κs. search needs) returns)

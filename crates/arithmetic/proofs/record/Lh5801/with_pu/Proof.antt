@@ -5,7 +5,7 @@ use Rattle.arithmetic.proofs.record.Lh5801.with_pu.Tie as tie
 
 returns : tie.Need-returns
 unfolding with-pu
-returns c = cc
+returns c = rw (c .each .ensures)
 
 pub with-pu-spec : {M : Type 1} → statement M
 with-pu-spec = tie.close (tie.spec (λ c κs. search needs) returns)

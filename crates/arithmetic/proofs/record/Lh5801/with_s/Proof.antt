@@ -5,7 +5,7 @@ use Rattle.arithmetic.proofs.record.Lh5801.with_s.Tie as tie
 
 returns : tie.Need-returns
 unfolding with-s
-returns c = cc
+returns c = rw (c .each .ensures)
 
 pub with-s-spec : {M : Type 1} → statement M
 with-s-spec = tie.close (tie.spec (λ c κs. search needs) returns)

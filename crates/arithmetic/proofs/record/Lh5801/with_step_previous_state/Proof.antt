@@ -5,7 +5,7 @@ use Rattle.arithmetic.proofs.record.Lh5801.with_step_previous_state.Tie
 
 returns : tie.Need-returns
 unfolding with-step-previous-state
-returns c = cc
+returns c = rw (c .each .ensures)
 
 pub with-step-previous-state-spec : {M : Type 1} → statement M
 with-step-previous-state-spec = tie.close (tie.spec (λ c κs. search needs) returns)

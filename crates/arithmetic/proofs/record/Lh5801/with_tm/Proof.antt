@@ -5,7 +5,7 @@ use Rattle.arithmetic.proofs.record.Lh5801.with_tm.Tie as tie
 
 returns : tie.Need-returns
 unfolding with-tm
-returns c = cc
+returns c = rw (c .each .ensures)
 
 pub with-tm-spec : {M : Type 1} → statement M
 with-tm-spec = tie.close (tie.spec (λ c κs. search needs) returns)

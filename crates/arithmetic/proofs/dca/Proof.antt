@@ -5,7 +5,7 @@ use Rattle.arithmetic.proofs.dca.Tie as tie
 
 returns : tie.Need-returns
 unfolding dcaOf dcaSum
-returns c = rw (c .with-sum .ensures) (rw (c .before .decimaladd-generic .ensures) (rw (c .before .before .get-flag .ensures) (rw (c .before .before .before .wrapping-add-u8 .ensures))))
+returns c = rw (c .with-sum .ensures, c .before .decimaladd-generic .ensures, c .before .before .get-flag .ensures, c .before .before .before .wrapping-add-u8 .ensures)
 
 pub dca-spec : {M : Type 1} → statement M
 dca-spec =

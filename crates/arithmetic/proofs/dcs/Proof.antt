@@ -5,7 +5,7 @@ use Rattle.arithmetic.proofs.dcs.Tie as tie
 
 returns : tie.Need-returns
 unfolding dcsOf dcsSum
-returns c = rw (c .with-sum .ensures) (rw (c .before .decimaladd-generic .ensures) (rw (c .before .before .get-flag .ensures)))
+returns c = rw (c .with-sum .ensures, c .before .decimaladd-generic .ensures, c .before .before .get-flag .ensures)
 
 pub dcs-spec : {M : Type 1} → statement M
 dcs-spec =

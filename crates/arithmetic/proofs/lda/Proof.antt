@@ -5,7 +5,7 @@ use Rattle.arithmetic.proofs.lda.Tie as tie
 
 returns : tie.Need-returns
 unfolding ldaOf
-returns c = rw (c .with-t .ensures) (rw (c .before .with-a .ensures) (rw (c .before .before .check-z .ensures)))
+returns c = rw (c .with-t .ensures, c .before .with-a .ensures, c .before .before .check-z .ensures)
 
 pub lda-spec : {M : Type 1} → statement M
 lda-spec = tie.close (tie.spec (λ c κs. search needs) (λ c κs. search needs) (λ c κs. search needs) returns)

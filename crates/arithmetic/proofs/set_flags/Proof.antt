@@ -5,7 +5,7 @@ use Rattle.arithmetic.proofs.set_flags.Tie as tie
 
 returns : tie.Need-returns
 unfolding withFlags
-returns c = cc
+returns c = rw (c .with-bits .ensures, c .before .bit-of4 .ensures .0, c .before .before .bit-of3 .ensures .0, c .before .before .before .bit-of2 .ensures .0, c .before .before .before .before .bit-of .ensures .0)
 
 pub set-flags-spec : {M : Type 1} → statement M
 set-flags-spec =

@@ -6,7 +6,7 @@ use Rattle.arithmetic.proofs.shifted_left.Tie as tie
 
 returns : tie.Need-returns
 unfolding leftOf
-returns c = cc (doubled (c .before .before .before .before .args .cpu .a))
+returns c = rw (c .with-t .ensures, c .before .with-a .ensures, c .before .before .set-flags .ensures, c .before .before .before .bit-of .ensures .0, doubled (c .before .before .before .before .args .cpu .a))
 
 pub shifted-left-spec : {M : Type 1} → statement M
 shifted-left-spec =

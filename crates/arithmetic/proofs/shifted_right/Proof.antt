@@ -5,7 +5,7 @@ use Rattle.arithmetic.proofs.shifted_right.Tie as tie
 
 returns : tie.Need-returns
 unfolding rightOf
-returns c = cc
+returns c = rw (c .with-t .ensures, c .before .with-a .ensures, c .before .before .set-flags .ensures, c .before .before .before .right-overflow .ensures, c .before .before .before .before .bit-of .ensures .0)
 
 pub shifted-right-spec : {M : Type 1} → statement M
 shifted-right-spec =

@@ -6,7 +6,7 @@ use Rattle.pages.proofs.accept.Tie as tie
 
 returns : tie.Need-returns
 unfolding entryOf
-returns c = does-then _ (c .before .before .before .before .before .before .before .before .before .push-state .ensures) (does-then _ (c .before .before .get-mem16 .ensures) (does-done (cc)))
+returns c = does-then _ (c .before .before .before .before .before .before .before .before .before .push-state .ensures) (does-then _ (c .before .before .get-mem16 .ensures) (does-done (rw (c .with-is-halted .ensures, c .before .with-p .ensures))))
 
 pub accept-spec : {M : Type 1} → statement M
 accept-spec =

@@ -6,7 +6,7 @@ use Rattle.pages.proofs.cpu_readop.Tie as tie
 
 returns : tie.Need-returns
 unfolding readopOf
-returns c = does-then _ (c .before .read-byte .ensures) (does-done (cc))
+returns c = does-then _ (c .before .read-byte .ensures) (does-done (rw (c .wrapping-add-u16 .ensures)))
 
 pub cpu-readop-spec : {M : Type 1} → statement M
 cpu-readop-spec = tie.close (tie.spec (λ c κs. search needs) (λ c κs. search needs) returns)

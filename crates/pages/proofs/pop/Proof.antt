@@ -8,7 +8,7 @@ returns : tie.Need-returns
 unfolding popOf
 returns c =
     rw (← c .before .before .before .wrapping-add-u16 .ensures)
-    (does-then _ (c .before .before .read-byte .ensures) (does-done (cc)))
+    (does-then _ (c .before .before .read-byte .ensures) (does-done (rw (c .lda .ensures, c .before .with-s .ensures))))
 
 pub pop-spec : {M : Type 1} → statement M
 pop-spec =

@@ -8,7 +8,7 @@ returns : tie.Need-returns
 unfolding popWordOf
 returns c =
     rw (← c .before .before .before .before .wrapping-add-u16 .ensures, ← c .before .before .wrapping-add-u162 .ensures)
-    (does-then _ (c .before .before .before .read-byte .ensures) (does-then _ (c .before .read-byte2 .ensures) (does-done (cc))))
+    (does-then _ (c .before .before .before .read-byte .ensures) (does-then _ (c .before .read-byte2 .ensures) (does-done (rw (c .word .ensures)))))
 
 pub pop-word-spec : {M : Type 1} → statement M
 pop-word-spec =

@@ -6,7 +6,7 @@ use Rattle.pages.proofs.readop_word.Tie as tie
 
 returns : tie.Need-returns
 unfolding readopWordOf
-returns c = does-then _ (c .before .before .cpu-readop .ensures) (does-then _ (c .before .cpu-readop2 .ensures) (does-done (cc)))
+returns c = does-then _ (c .before .before .cpu-readop .ensures) (does-then _ (c .before .cpu-readop2 .ensures) (does-done (rw (c .word .ensures))))
 
 pub readop-word-spec : {M : Type 1} → statement M
 readop-word-spec =

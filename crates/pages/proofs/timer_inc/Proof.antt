@@ -5,7 +5,7 @@ use Rattle.pages.proofs.timer_inc.Tie as tie
 
 returns : tie.Need-returns
 unfolding shiftOf timerIncOf
-returns c = cc
+returns c = rw (c .with-is-timer-reached .ensures, c .before .with-tm .ensures)
 
 pub timer-inc-spec : {M : Type 1} → statement M
 timer-inc-spec =

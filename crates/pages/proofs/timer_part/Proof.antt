@@ -5,7 +5,7 @@ use Rattle.pages.proofs.timer_part.Statement.{statement}
 use Rattle.pages.proofs.timer_part.Tie as tie
 
 returns : tie.Need-returns
-returns c = rw (timer-part-due (c .before .before .before .before .args .cpu) (omega arith)) (cc)
+returns c = rw (timer-part-due (c .before .before .before .before .args .cpu) (omega arith)) (rw (c .with-step-previous-state .ensures, c .before .timer-inc .ensures))
 
 returns-2 : tie.Need-returns-2
 returns-2 c = rw (timer-part-early (c .before .before .args .cpu) (omega arith))

@@ -111,15 +111,17 @@ long as they have to be, so that an access past an end is seen by valgrind; see 
 ";
 
 pub const SPEED_HELP: &str = "\
-oracle speed [--rounds N] [--bench DIR]
+oracle speed [--rounds N] [--bench DIR] [--least PERCENT]
 
-Measures three ways to do the same work, in interleaved rounds: the original's bare step_cpu loop,
-the original under a run call with its stop checks, and the port. Prints the median with the least
-and the greatest, and the ratios of the medians, with those of the least costs behind them; above 1
-the port is faster. It wants the feature `port`.
+Checks that lh5801_run is the only function of the archive, as `oracle symbols` does (status 1 where
+it is not), and measures three ways to do the same work, in interleaved rounds: the original's bare
+step_cpu loop, the original under a run call with its stop checks, and the port. Prints the median
+with the least and the greatest, and the ratios of the medians, with those of the least costs behind
+them; above 1 the port is faster. It wants the feature `port`.
 
---rounds N    rounds that count; 15 without it
---bench DIR   the folder of lop.bin, dca.bin and mixed.bin; ../../shared/bench without it
+--rounds N        rounds that count; 15 without it
+--bench DIR       the folder of lop.bin, dca.bin and mixed.bin; ../../shared/bench without it
+--least PERCENT   status 1 where the port's ratio to the bare original is below it on a whole run
 ";
 
 pub const ONCE_HELP: &str = "\

@@ -168,8 +168,12 @@ fn speed(arguments: &Arguments) -> Result<bool, String> {
     wants_port()?;
     let bench = PathBuf::from(arguments.option("--bench").unwrap_or(BENCH));
     let rounds = arguments.positive("--rounds", 15)?;
-    speed::run(&speed::Settings { rounds, bench })?;
-    Ok(true)
+    let wanted = arguments.number("--least", 0)?;
+    let alone = symbols::run(Path::new(env!("PORT_ARCHIVE")))?;
+    println!();
+    let least = speed::run(&speed::Settings { rounds, bench })?;
+    println!("\nleast ratio of the whole runs, bare/port: {least:.2}");
+    Ok(alone && least * 100.0 >= wanted as f64)
 }
 
 fn once(arguments: &Arguments) -> Result<bool, String> {
@@ -241,7 +245,7 @@ const COMMANDS: [Command; 11] = [
     ("rerun", help::RERUN_HELP, &["--seed="], rerun),
     ("campaign", help::CAMPAIGN_HELP, &["--seed=", "--program="], campaign),
     ("replay", help::REPLAY_HELP, &[], replay),
-    ("speed", help::SPEED_HELP, &["--rounds=", "--bench="], speed),
+    ("speed", help::SPEED_HELP, &["--rounds=", "--bench=", "--least="], speed),
     ("once", help::ONCE_HELP, &[], once),
     ("symbols", help::SYMBOLS_HELP, &[], symbols),
     ("list", help::LIST_HELP, &["--seed=", "--out=", "--check=", "--side="], list),

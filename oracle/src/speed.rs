@@ -185,7 +185,8 @@ fn ratio(left: &Spread, right: &Spread) -> String {
     format!("{:.2} ({:.2})", left.median / right.median, left.least / right.least)
 }
 
-fn print_row(work: &Work, rounds: u64) -> Result<(), String> {
+/// Measures, prints, and tells how many times as fast as the bare original the port is.
+fn print_row(work: &Work, rounds: u64) -> Result<f64, String> {
     let costs = measure(work, rounds)?;
     let [bare, original, port] = costs.each_ref().map(|cost| {
         let range = format!("({:.2} to {:.2})", cost.least, cost.greatest);
@@ -197,7 +198,7 @@ fn print_row(work: &Work, rounds: u64) -> Result<(), String> {
         ratio(&costs[BARE], &costs[PORT]),
         ratio(&costs[ORIGINAL], &costs[PORT])
     );
-    Ok(())
+    Ok(costs[BARE].median / costs[PORT].median)
 }
 
 /// A campaign file's call.
@@ -232,15 +233,16 @@ fn pages_title(lengths: [usize; 2]) -> String {
     format!("pages of {length0} and {length1}{off}")
 }
 
-/// Measures and prints everything.
-pub fn run(settings: &Settings) -> Result<(), String> {
+/// Measures and prints everything, and tells the least ratio of the whole runs to the bare original.
+pub fn run(settings: &Settings) -> Result<f64, String> {
     let rounds = settings.rounds;
     let programs = programs(&settings.bench)?;
     println!("{rounds} interleaved rounds after one that is not counted, one thread, one process");
     println!("ratios: of the medians (of the least); above 1 the port is faster");
     print_head("Whole runs of 1,000,000 steps", "a step");
+    let mut least = f64::INFINITY;
     for (name, call) in &programs {
-        print_row(&Work::steps(name, call, 1_000_000), rounds)?;
+        least = least.min(print_row(&Work::steps(name, call, 1_000_000), rounds)?);
     }
     print_head("Short calls, cut from one run", "a call");
     for (name, call) in &programs {
@@ -264,7 +266,7 @@ pub fn run(settings: &Settings) -> Result<(), String> {
         let call = on_pages(&programs[0].1, lengths);
         print_row(&Work::calls(&pages_title(lengths), &call, 1), rounds)?;
     }
-    Ok(())
+    Ok(least)
 }
 
 /// Runs a campaign file exactly once, one of the three ways, and tells document 01's line.

@@ -7,7 +7,7 @@ use Rattle.execution.proofs.operations.bii.Tie as tie
 
 returns : tie.Need-returns
 unfolding biiOf
-returns c = does-then _ (rw (locate-at (c .before .before .before .before .before .before .before .before .args .cpu) (c .before .before .before .before .before .before .before .before .args .place)) at (rw (c .before .before .before .before .before .word-at .ensures) at (c .before .before .before .before .locate .ensures))) (does-then _ (c .before .before .before .read-byte .ensures) (does-then _ (c .before .before .cpu-readop .ensures) (does-done (cc))))
+returns c = does-then _ (rw (locate-at (c .before .before .before .before .before .before .before .before .args .cpu) (c .before .before .before .before .before .before .before .before .args .place)) at (rw (c .before .before .before .before .before .word-at .ensures) at (c .before .before .before .before .locate .ensures))) (does-then _ (c .before .before .before .read-byte .ensures) (does-then _ (c .before .before .cpu-readop .ensures) (does-done (rw (c .bit .ensures, c .before .with-p .ensures)))))
 
 pub bii-spec : {M : Type 1} → statement M
 bii-spec =

@@ -3,10 +3,10 @@ use Rattle.execution.proofs.operations.changed.Statement.{statement}
 use Rattle.execution.proofs.operations.changed.Tie as tie
 
 returns : tie.Need-returns
-returns c = rw (c .before .enum-told .given .1) (cc)
+returns c = rw (c .before .enum-told .given .1) (rw (c .check-z .ensures))
 
 returns-2 : tie.Need-returns-2
-returns-2 c = rw (c .before .enum-told2 .given .1) (cc)
+returns-2 c = rw (c .before .enum-told2 .given .1) (rw (c .check-z2 .ensures))
 
 returns-3 : tie.Need-returns-3
 returns-3 c = rw (c .before .enum-told3 .given .1) (c .add-generic .ensures)

@@ -7,7 +7,7 @@ use Rattle.execution.proofs.places.locate.Tie as tie
 
 returns : tie.Need-returns
 unfolding locateAt
-returns c = rw (c .before .before .place .given .1) (does-done (cc))
+returns c = rw (c .before .before .place .given .1) (does-done (rw (c .paged .ensures)))
 
 returns-2 : tie.Need-returns-2
 unfolding locateAt

@@ -7,7 +7,7 @@ use Rattle.execution.proofs.places.operand.Tie as tie
 
 returns : tie.Need-returns
 unfolding operandAt
-returns c = rw (c .before .before .place .given .1) (does-done (cc))
+returns c = rw (c .before .before .place .given .1) (does-done (rw (c .half-of .ensures)))
 
 returns-2 : tie.Need-returns-2
 unfolding operandAt

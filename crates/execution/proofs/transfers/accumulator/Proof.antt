@@ -25,7 +25,7 @@ returns-6 : tie.Need-returns-6
 returns-6 c = rw (c .before .enum-told6 .given .1) (c .rol .ensures)
 
 returns-7 : tie.Need-returns-7
-returns-7 c = rw (c .before .before .enum-told7 .given .1) (cc)
+returns-7 c = rw (c .before .before .enum-told7 .given .1) (rw (c .with-a .ensures, c .before .aex .ensures))
 
 returns-8 : tie.Need-returns-8
 returns-8 c = rw (c .before .enum-told8 .given .1) (c .tta .ensures)

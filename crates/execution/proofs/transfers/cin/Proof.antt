@@ -6,7 +6,7 @@ use Rattle.execution.proofs.transfers.cin.Tie as tie
 
 returns : tie.Need-returns
 unfolding cinOf
-returns c = does-then _ (c .before .before .before .read-byte .ensures) (does-done (cc))
+returns c = does-then _ (c .before .before .before .read-byte .ensures) (does-done (rw (c .cpa .ensures, c .before .with-x .ensures, c .before .before .wrapping-add-u16 .ensures)))
 
 pub cin-spec : {M : Type 1} → statement M
 cin-spec =

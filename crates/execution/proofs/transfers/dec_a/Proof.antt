@@ -3,4 +3,4 @@ use Rattle.execution.proofs.transfers.dec_a.Statement.{statement}
 use Rattle.execution.proofs.transfers.dec_a.Tie as tie
 
 pub dec-a-spec : {M : Type 1} → statement M
-dec-a-spec = tie.close (tie.spec (λ c κs. search needs) (λ c κs. search needs) (λ c κs. search needs) (λ c. cc))
+dec-a-spec = tie.close (tie.spec (λ c κs. search needs) (λ c κs. search needs) (λ c κs. search needs) (λ c. rw (c .with-t .ensures, c .before .with-a .ensures, c .before .before .dec .ensures)))

@@ -6,7 +6,7 @@ use Rattle.execution.proofs.transfers.tin.Tie as tie
 
 returns : tie.Need-returns
 unfolding tinOf
-returns c = does-then _ (c .before .before .before .before .before .before .before .before .before .before .before .before .read-byte .ensures) (does-then _ (c .before .before .before .before .before .before .before .before .write-byte .ensures) (does-done (cc)))
+returns c = does-then _ (c .before .before .before .before .before .before .before .before .before .before .before .before .read-byte .ensures) (does-then _ (c .before .before .before .before .before .before .before .before .write-byte .ensures) (does-done (rw (c .with-y .ensures, c .before .with-x .ensures, c .before .before .wrapping-add-u162 .ensures, c .before .before .before .wrapping-add-u16 .ensures))))
 
 pub tin-spec : {M : Type 1} → statement M
 tin-spec =

@@ -1,5 +1,5 @@
-// A table's entry of each kind that stands there more than twice: the instruction with its operand place and its states. The tables
-// call these instead of building the value at each byte; the program is the same, and is checked in a fifth of the time.
+// The entries of the opcode tables, one function for each kind of instruction that stands there more than twice: the instruction
+// with what it holds, and its states.
 ghost use mathlib.Core.Path.{_≡_};
 ghost use Rattle.execution.specs.declared.instructions.Decoded.the-variants.{Listed};
 ghost use Rattle.execution.specs.declared.instructions.Instruction.the-variants.{Alu, Sta, Memory, Bii, Load, Compare, Inc, Dec, IncWord, DecWord, Sin, Sde, Lin, Lde, Branch, VectorIf, Vector, Accumulator as OnA, Signal as Line, PopWord, PushWord, ToX, FromX, Adr};

@@ -11,9 +11,10 @@
 // the campaign file's bytes at their start, then the bytes that are set. So pages can be longer than a campaign file holds.
 ghost use mathlib.Core.Path.{_≡_};
 ghost use Prim.Native.Nat.{_+_, _≤_};
-ghost use lib.ListN.{length};
+ghost use lib.ListN.{length, take};
 ghost use Rattle.run.specs.Line.{Printed};
 ghost use Rattle.run.specs.Report.{toldLine};
+ghost use Rattle.replay.specs.Numbers.{twoOf, fourOf, eightOf, endOf, sumsOf, sumsPageOf, sumsDifferOf, eitherOf, bothOf, nextByteOf};
 use arithmetic::record::Lh5801;
 use libc::STDOUT_FILENO;
 use run::Answer;
@@ -51,7 +52,7 @@ fn wide(byte: u8) -> u64
 // The number of two bytes, the lower first.
 fn two(bytes: &[u8], at: usize) -> u64
     requires { ⌜ at + 2 ≤ length (now bytes) ⌝ }
-    ensures { λ r. ⌜ r ≤ 65535 ⌝ }
+    ensures { λ r. ⌜ (r ≡ twoOf (now (bytes .entry)) at) × (r ≤ 65535) ⌝ }
 {
     wide(bytes[at]) + 256 * wide(bytes[at + 1])
 }
@@ -59,7 +60,7 @@ fn two(bytes: &[u8], at: usize) -> u64
 // The number of four bytes, the lowest first.
 fn four(bytes: &[u8], at: usize) -> u64
     requires { ⌜ at + 4 ≤ length (now bytes) ⌝ }
-    ensures { λ r. ⌜ r ≤ 4294967295 ⌝ }
+    ensures { λ r. ⌜ (r ≡ fourOf (now (bytes .entry)) at) × (r ≤ 4294967295) ⌝ }
 {
     two(bytes, at) + 65536 * two(bytes, at + 2)
 }
@@ -67,7 +68,7 @@ fn four(bytes: &[u8], at: usize) -> u64
 // The number of eight bytes, the lowest first.
 fn eight(bytes: &[u8], at: usize) -> u64
     requires { ⌜ at + 8 ≤ length (now bytes) ⌝ }
-    ensures { λ r. ⌜ r ≤ 18446744073709551615 ⌝ }
+    ensures { λ r. ⌜ r ≡ eightOf (now (bytes .entry)) at ⌝ }
 {
     four(bytes, at) + 4294967296 * four(bytes, at + 4)
 }
@@ -75,7 +76,7 @@ fn eight(bytes: &[u8], at: usize) -> u64
 // The sums go on over the first bytes of a page.
 fn sums_over(page: &[u8], len: usize, before: Sums) -> Sums
     requires { ⌜ len ≤ length (now page) ⌝ }
-    ensures { λ r. ⌜ r .first ≤ 18446744073709551615 ⌝ }
+    ensures { λ r. ⌜ r ≡ sumsOf (take len (now (page .entry))) before ⌝ }
 {
     let mut first = before.first;
     let mut second = before.second;
@@ -93,7 +94,7 @@ fn sums_over(page: &[u8], len: usize, before: Sums) -> Sums
 
 // The sums go on over the first bytes of an array; where it has not so many, they are 0.
 fn sums_page(page: &[u8; 65537], len: usize, before: Sums) -> Sums
-    ensures { λ r. ⌜ r .first ≤ 18446744073709551615 ⌝ }
+    ensures { λ r. ⌜ r ≡ sumsPageOf (now (page .entry)) len before ⌝ }
 {
     if 65537 < len {
         return Sums {
@@ -135,7 +136,7 @@ fn copy_page(bytes: &[u8], at: usize, page: &mut [u8], len: usize)
 
 // The fill rule's byte at offset i from the one before it: a step on, and four steps on where a block of 256 begins, modulo 256.
 fn next_byte(byte: u8, step: u8, i: usize) -> u8
-    ensures { λ r. ⌜ r ≤ 255 ⌝ }
+    ensures { λ r. ⌜ r ≡ nextByteOf byte step i ⌝ }
 {
     let next = std::num::wrapping_add_u8(byte, step);
     if i % 256 == 0 {
@@ -256,7 +257,7 @@ fn line_differs(out: &[u8; 200], n: usize, want: &[u8]) -> u64
 
 // 0 where the sums are the wanted ones, else 1.
 fn sums_differ(sums: Sums, want: Sums) -> u64
-    ensures { λ r. ⌜ r ≤ 1 ⌝ }
+    ensures { λ r. ⌜ (r ≡ sumsDifferOf sums want) × (r ≤ 1) ⌝ }
 {
     if sums.first == want.first && sums.second == want.second {
         0
@@ -267,7 +268,7 @@ fn sums_differ(sums: Sums, want: Sums) -> u64
 
 // 0 where neither differs, else 1.
 fn either(line: u64, sums: u64) -> u64
-    ensures { λ r. ⌜ r ≤ 1 ⌝ }
+    ensures { λ r. ⌜ (r ≡ eitherOf line sums) × (r ≤ 1) ⌝ }
 {
     if line == 0 && sums == 0 { 0 } else { 1 }
 }
@@ -368,7 +369,7 @@ fn differs(
 // The place after the entry that begins here.
 fn end_of(bytes: &[u8], at: usize) -> usize
     requires { ⌜ at + 14 ≤ length (now bytes) ⌝ }
-    ensures { λ r. ⌜ at + 30 ≤ r ⌝ }
+    ensures { λ r. ⌜ (r ≡ endOf (now (bytes .entry)) at) × (at + 30 ≤ r) ⌝ }
 {
     at
         + 30
@@ -489,7 +490,7 @@ fn replay_path(path: &[u8]) -> Tally
 
 // Both parts of the list, modulo 2^64.
 fn both(a: Tally, b: Tally) -> Tally
-    ensures { λ r. ⌜ r .calls ≤ 18446744073709551615 ⌝ }
+    ensures { λ r. ⌜ r ≡ bothOf a b ⌝ }
 {
     let calls = std::num::wrapping_add_u64(a.calls, b.calls);
     let differ = std::num::wrapping_add_u64(a.differ, b.differ);

@@ -13,8 +13,9 @@ ghost use mathlib.Core.Path.{_≡_};
 ghost use Prim.Native.Nat.{_+_, _≤_};
 ghost use lib.ListN.{length, take};
 ghost use Rattle.run.specs.Line.{Printed};
-ghost use Rattle.run.specs.Report.{toldLine};
+ghost use Rattle.run.specs.Report.{part, toldLine};
 ghost use Rattle.replay.specs.Numbers.{twoOf, fourOf, eightOf, endOf, sumsOf, sumsPageOf, sumsDifferOf, eitherOf, bothOf, nextByteOf};
+ghost use Rattle.replay.specs.Bytes.{atStart, fillOf, copyPageOf, setOf, patchOf, prepareOf, RunParts, lineDiffersOf};
 use arithmetic::record::Lh5801;
 use libc::STDOUT_FILENO;
 use run::Answer;
@@ -108,7 +109,7 @@ fn sums_page(page: &[u8; 65537], len: usize, before: Sums) -> Sums
 // Bytes from a place on, to the start of a page.
 fn copy_part(bytes: &[u8], at: usize, page: &mut [u8], len: usize)
     requires { ⌜ (at + len ≤ length (now bytes)) × (len ≤ length (now page)) ⌝ }
-    ensures { λ _. ⌜ length (now (page .exit)) ≡ length (now (page .entry)) ⌝ }
+    ensures { λ _. ⌜ now (page .exit) ≡ atStart (now (page .entry)) (part (now (bytes .entry)) at len) ⌝ }
 {
     let mut i = 0;
     while i < len {
@@ -119,7 +120,7 @@ fn copy_part(bytes: &[u8], at: usize, page: &mut [u8], len: usize)
 
 // A page's bytes, from a place of the file on, to the start of a page; nothing where they are not all there or do not fit.
 fn copy_page(bytes: &[u8], at: usize, page: &mut [u8], len: usize)
-    ensures { λ _. ⌜ length (now (page .exit)) ≡ length (now (page .entry)) ⌝ }
+    ensures { λ _. ⌜ now (page .exit) ≡ copyPageOf (now (bytes .entry)) at (now (page .entry)) len ⌝ }
 {
     let all = bytes.len();
     if all < at {
@@ -149,7 +150,7 @@ fn next_byte(byte: u8, step: u8, i: usize) -> u8
 
 // The first bytes of a page by the fill rule.
 fn fill(page: &mut [u8], len: usize, first: u8, step: u8)
-    ensures { λ _. ⌜ length (now (page .exit)) ≡ length (now (page .entry)) ⌝ }
+    ensures { λ _. ⌜ now (page .exit) ≡ fillOf (now (page .entry)) len first step ⌝ }
 {
     let mut byte = first;
     let mut i = 0;
@@ -162,7 +163,7 @@ fn fill(page: &mut [u8], len: usize, first: u8, step: u8)
 
 // One byte of a page, where it is this page's and lies in it.
 fn set(page: &mut [u8], is_here: bool, offset: usize, byte: u8)
-    ensures { λ _. ⌜ length (now (page .exit)) ≡ length (now (page .entry)) ⌝ }
+    ensures { λ _. ⌜ now (page .exit) ≡ setOf (now (page .entry)) «is_here» offset byte ⌝ }
 {
     if is_here && offset < page.len() {
         page[offset] = byte;
@@ -171,7 +172,7 @@ fn set(page: &mut [u8], is_here: bool, offset: usize, byte: u8)
 
 // The bytes that are set after the fill rule in one page: in groups of four the offset in two bytes, the page, and the byte.
 fn patch(page: &mut [u8], which: u64, sets: &[u8])
-    ensures { λ _. ⌜ length (now (page .exit)) ≡ length (now (page .entry)) ⌝ }
+    ensures { λ _. ⌜ now (page .exit) ≡ patchOf (now (page .entry)) which (now (sets .entry)) ⌝ }
 {
     let mut i = 0;
     while 4 <= sets.len() - i {
@@ -192,7 +193,7 @@ fn prepare(
     count: usize,
     sets: &[u8],
 )
-    ensures { λ _. ⌜ length (now (page .exit)) ≡ length (now (page .entry)) ⌝ }
+    ensures { λ _. ⌜ now (page .exit) ≡ prepareOf (now (page .entry)) which len rule (now (file .entry)) at count (now (sets .entry)) ⌝ }
 {
     fill(page, len, rule.first, rule.step);
     copy_page(file, at, page, count);
@@ -209,7 +210,7 @@ fn run_parts(
     settings: Settings,
 ) -> Answer
     requires { ⌜ (len0 ≤ length (now page0)) × (len1 ≤ length (now page1)) ⌝ }
-    ensures { λ _. ⌜ (length (now (page0 .exit)) ≡ length (now (page0 .entry))) × (length (now (page1 .exit)) ≡ length (now (page1 .entry))) ⌝ }
+    ensures { λ r. ⌜ RunParts settings cpu (now (page0 .entry)) len0 (now (page1 .entry)) len1 r (now (page0 .exit)) (now (page1 .exit)) ⌝ }
 {
     run::run(cpu, &mut page0[..len0], &mut page1[..len1], settings)
 }
@@ -224,7 +225,7 @@ fn run_pages(
     settings: Settings,
 ) -> Answer
     requires { ⌜ (len0 ≤ 65537) × (len1 ≤ 65537) ⌝ }
-    ensures { λ _. ⌜ (length (now (page0 .exit)) ≡ length (now (page0 .entry))) × (length (now (page1 .exit)) ≡ length (now (page1 .entry))) ⌝ }
+    ensures { λ r. ⌜ RunParts settings cpu (now (page0 .entry)) len0 (now (page1 .entry)) len1 r (now (page0 .exit)) (now (page1 .exit)) ⌝ }
 {
     run_parts(cpu, page0, len0, page1, len1, settings)
 }
@@ -240,14 +241,15 @@ fn told_line(out: &mut [u8; 200], a: Answer) -> usize
 
 // 0 where the first bytes of a buffer, so many, are those of the wanted line, else 1.
 fn line_differs(out: &[u8; 200], n: usize, want: &[u8]) -> u64
-    ensures { λ r. ⌜ r ≤ 1 ⌝ }
+    ensures { λ r. ⌜ (r ≡ lineDiffersOf (now (out .entry)) n (now (want .entry))) × (r ≤ 1) ⌝ }
 {
+    let buffer: &[u8] = out;
     if n != want.len() {
         return 1;
     }
     let mut i = 0;
-    while i < want.len() && i < out.len() {
-        if out[i] != want[i] {
+    while i < want.len() && i < buffer.len() {
+        if buffer[i] != want[i] {
             return 1;
         }
         i += 1;

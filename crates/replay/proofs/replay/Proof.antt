@@ -10,13 +10,6 @@ Inv-loop bytes at₀ calls₀ differ₀ at calls differ = (at ≤ length bytes) 
 abbrev μ-loop : tie.MeasureT-loop
 μ-loop bytes at₀ calls₀ differ₀ at calls differ = length bytes - at
 
--- src/main.rt:358:5
--- src/main.rt:359:13
--- src/main.rt:361:9
--- src/main.rt:362:9
--- src/main.rt:358:5
--- src/main.rt:358:5
--- src/main.rt:352:1
 pub replay-spec : {M : Type 1} → statement M
 replay-spec =
     tie.close

@@ -2,11 +2,11 @@
 use Prim.Native.Nat.{ℕ, suc, _+_, _-_, _≤_, _<_}
 use native.Mathlib.Numerals.{add-one, add-two, add-three, add-four}
 use native.Mathlib.Omega.{arith}
-use mathlib.Core.List.{List, [], _∷_}
-use mathlib.Core.Path.{_≡_, refl}
+use mathlib.Core.List.{List, [], _∷_, _++_}
+use mathlib.Core.Path.{_≡_, refl, ap}
 use lib.Dec.{eqb}
-use lib.ListN.{length, take, drop, getD, set, length-drop, drop-of-length-le}
-use lib.Seq.{sets, drop-cons, set-out, getD-drop, getD-take, length-take-le}
+use lib.ListN.{length, take, drop, getD, set, length-append, length-drop, drop-of-length-le}
+use lib.Seq.{sets, drop-cons, set-out, getD-drop, getD-take, length-take-le, take-at, drop-at}
 use Rattle.run.specs.Report.{part}
 use Rattle.replay.specs.Numbers.{nextByteOf, twoOf}
 use Rattle.replay.specs.Bytes.{ruleBytes, setOf, patchOf}
@@ -64,3 +64,14 @@ short page which (a ∷ b ∷ c ∷ d ∷ l) h = absurd (omega arith)
 
 pub all-patched : (page : List ℕ) (which : ℕ) (l : List ℕ) (i : ℕ) → length l - i < 4 → patchOf page which (drop i l) ≡ page
 all-patched page which l i h = short page which (drop i l) (rw length-drop h)
+
+-- a page whose start was put anew and whose length stands: the new start, and the rest as it was
+module _ (after start page : List ℕ) (n : ℕ) (e : after ≡ start ++ drop n page) (h : n ≤ length page) (same : length after ≡ length page) where
+  start-length : length start ≡ n
+  start-length = omega (arith, ap length e, length-append start (drop n page), length-drop n page)
+
+  pub start-is : take n after ≡ start
+  start-is = rw e (take-at start (drop n page) n start-length)
+
+  pub rest-is : drop n after ≡ drop n page
+  rest-is = rw e (drop-at start (drop n page) n start-length)

@@ -1,7 +1,7 @@
 -- The pages before a call, the run call on their starts, and the comparison of a line.
 use Prim.Native.Nat.{ℕ, zero, suc, _+_, _*_}
 use mathlib.Core.Bool.{Bool, true, false, cond}
-use mathlib.Core.List.{List, [], _∷_, _++_}
+use mathlib.Core.List.{List, [], _∷_}
 use lib.ListN.{length, take, drop, set}
 use lib.Seq.{sets}
 use lib.Dec.{eqb, leb}
@@ -55,8 +55,10 @@ runPartsOf settings cpu page0 len0 page1 len1 = callOf settings cpu (record { pa
 -- what the run call on the starts of two pages tells and leaves: behind the starts the pages are as they were
 pub record RunParts (settings : Settings) (cpu : Lh5801) (page0 : List ℕ) (len0 : ℕ) (page1 : List ℕ) (len1 : ℕ) (r : Answer) (after0 after1 : List ℕ) : Type 0 where
   pub told : r ≡ runPartsOf settings cpu page0 len0 page1 len1 .told
-  pub page0-is : after0 ≡ runPartsOf settings cpu page0 len0 page1 len1 .pages .page0 ++ drop len0 page0
-  pub page1-is : after1 ≡ runPartsOf settings cpu page0 len0 page1 len1 .pages .page1 ++ drop len1 page1
+  pub page0-is : take len0 after0 ≡ runPartsOf settings cpu page0 len0 page1 len1 .pages .page0
+  pub rest0-kept : drop len0 after0 ≡ drop len0 page0
+  pub page1-is : take len1 after1 ≡ runPartsOf settings cpu page0 len0 page1 len1 .pages .page1
+  pub rest1-kept : drop len1 after1 ≡ drop len1 page1
 
 -- the same bytes, and as many
 unfoldable pub sameBytes : List ℕ → List ℕ → Bool

@@ -16,6 +16,7 @@ ghost use Rattle.run.specs.Line.{Printed};
 ghost use Rattle.run.specs.Report.{part, toldLine};
 ghost use Rattle.replay.specs.Numbers.{twoOf, fourOf, eightOf, endOf, sumsOf, sumsPageOf, sumsDifferOf, eitherOf, bothOf, nextByteOf};
 ghost use Rattle.replay.specs.Bytes.{atStart, fillOf, copyPageOf, setOf, patchOf, prepareOf, RunParts, lineDiffersOf};
+ghost use Rattle.replay.specs.Calls.{refusalDiffersOf, callDiffersOf, differsOf, entryDiffersOf, entryOf};
 use arithmetic::record::Lh5801;
 use libc::STDOUT_FILENO;
 use run::Answer;
@@ -287,7 +288,7 @@ fn call_differs(
     want_sums: Sums,
 ) -> u64
     requires { ⌜ (len0 ≤ 65537) × (len1 ≤ 65537) ⌝ }
-    ensures { λ r. ⌜ r ≤ 1 ⌝ }
+    ensures { λ r. ⌜ (r ≡ callDiffersOf (now (file .entry)) c len0 len1 rule (now (sets .entry)) (now (want .entry)) «want_sums») × (r ≤ 1) ⌝ }
 {
     let mut page0 = [0u8; 65537];
     let mut page1 = [0u8; 65537];
@@ -327,7 +328,7 @@ fn call_differs(
 
 // A file that was turned down: its line.
 fn refusal_differs(stop: Refusal, want: &[u8]) -> u64
-    ensures { λ r. ⌜ r ≤ 1 ⌝ }
+    ensures { λ r. ⌜ (r ≡ refusalDiffersOf stop (now (want .entry))) × (r ≤ 1) ⌝ }
 {
     let mut out = [0u8; 200];
     let n = line::refusal_line(&mut out, stop.number(), stop.offset() as u64);
@@ -344,7 +345,7 @@ fn differs(
     want: &[u8],
     want_sums: Sums,
 ) -> u64
-    ensures { λ r. ⌜ r ≤ 1 ⌝ }
+    ensures { λ r. ⌜ (r ≡ differsOf (now (file .entry)) len0 len1 rule (now (sets .entry)) (now (want .entry)) «want_sums») × (r ≤ 1) ⌝ }
 {
     if 65537 < len0 {
         return 1;
@@ -383,7 +384,7 @@ fn end_of(bytes: &[u8], at: usize) -> usize
 // The entry that begins here and ends there.
 fn entry_differs(bytes: &[u8], at: usize, end: usize) -> u64
     requires { ⌜ (at + 30 ≤ end) × (end ≤ length (now bytes)) ⌝ }
-    ensures { λ r. ⌜ r ≤ 1 ⌝ }
+    ensures { λ r. ⌜ (r ≡ entryDiffersOf (now (bytes .entry)) at end) × (r ≤ 1) ⌝ }
 {
     let len0 = four(bytes, at + 2);
     let len1 = four(bytes, at + 6);
@@ -422,7 +423,7 @@ struct Found {
 // The entry that begins here. One that is cut off counts as a call that differs, and ends the list.
 fn entry(bytes: &[u8], at: usize) -> Found
     requires { ⌜ at + 1 ≤ length (now bytes) ⌝ }
-    ensures { λ r. ⌜ (at + 1 ≤ r .end) × (r .end ≤ length (now (bytes .entry))) × (r .differs ≤ 1) ⌝ }
+    ensures { λ r. ⌜ (r ≡ entryOf (now (bytes .entry)) at) × (at + 1 ≤ r .end) × (r .end ≤ length (now (bytes .entry))) × (r .differs ≤ 1) ⌝ }
 {
     let all = bytes.len();
     if all - at < 14 {

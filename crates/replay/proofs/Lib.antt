@@ -2,3 +2,4 @@ pub mod OneMore
 pub mod Stores
 pub mod Compared
 pub mod Told
+pub mod Listed

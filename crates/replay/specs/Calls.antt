@@ -76,3 +76,17 @@ entryOf bytes at =
     cond (ltb (length bytes - at) 14) (cutOff bytes)
     (cond (ltb (length bytes) (endOf bytes at)) (cutOff bytes)
     (record { end = endOf bytes at; differs = entryDiffersOf bytes at (endOf bytes at) }))
+
+-- one call more, and one more that differs where it does
+abbrev pub withFound : Tally → Found → Tally
+withFound tally found = record { calls = tally .calls + 1; differ = tally .differ + found .differs }
+
+-- the entries from a place on, of which there are at most so many as the first argument says, counted after those before them
+unfoldable pub replayFrom : ℕ → List ℕ → ℕ → Tally → Tally
+replayFrom zero bytes at tally = tally
+replayFrom (suc more) bytes at tally =
+    cond (ltb at (length bytes)) (replayFrom more bytes (entryOf bytes at .end) (withFound tally (entryOf bytes at))) tally
+
+-- the whole list. An entry has at least one byte, so there are at most as many entries as bytes
+unfoldable pub replayOf : List ℕ → Tally
+replayOf bytes = replayFrom (length bytes) bytes 0 (record { calls = 0; differ = 0 })

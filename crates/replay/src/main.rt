@@ -16,7 +16,7 @@ ghost use Rattle.run.specs.Line.{Printed};
 ghost use Rattle.run.specs.Report.{part, toldLine};
 ghost use Rattle.replay.specs.Numbers.{twoOf, fourOf, eightOf, endOf, sumsOf, sumsPageOf, sumsDifferOf, eitherOf, bothOf, nextByteOf};
 ghost use Rattle.replay.specs.Bytes.{atStart, fillOf, copyPageOf, setOf, patchOf, prepareOf, RunParts, lineDiffersOf};
-ghost use Rattle.replay.specs.Calls.{refusalDiffersOf, callDiffersOf, differsOf, entryDiffersOf, entryOf};
+ghost use Rattle.replay.specs.Calls.{refusalDiffersOf, callDiffersOf, differsOf, entryDiffersOf, entryOf, replayOf};
 use arithmetic::record::Lh5801;
 use libc::STDOUT_FILENO;
 use run::Answer;
@@ -448,7 +448,7 @@ fn entry(bytes: &[u8], at: usize) -> Found
 
 // The whole list.
 fn replay(bytes: &[u8]) -> Tally
-    ensures { λ r. ⌜ (r .differ ≤ r .calls) × (r .calls ≤ length (now (bytes .entry))) ⌝ }
+    ensures { λ r. ⌜ (r ≡ replayOf (now (bytes .entry))) × (r .differ ≤ r .calls) × (r .calls ≤ length (now (bytes .entry))) ⌝ }
 {
     let mut at = 0;
     let mut calls: u64 = 0;

@@ -11,9 +11,12 @@
 // the campaign file's bytes at their start, then the bytes that are set. So pages can be longer than a campaign file holds.
 ghost use mathlib.Core.Path.{_≡_};
 ghost use Prim.Native.Nat.{_+_, _≤_};
-ghost use lib.ListN.{length};
+ghost use lib.ListN.{length, take};
 ghost use Rattle.run.specs.Line.{Printed};
-ghost use Rattle.run.specs.Report.{toldLine};
+ghost use Rattle.run.specs.Report.{part, toldLine};
+ghost use Rattle.replay.specs.Numbers.{twoOf, fourOf, eightOf, endOf, sumsOf, sumsPageOf, sumsDifferOf, eitherOf, bothOf, nextByteOf};
+ghost use Rattle.replay.specs.Bytes.{atStart, fillOf, copyPageOf, setOf, patchOf, prepareOf, RunParts, lineDiffersOf};
+ghost use Rattle.replay.specs.Calls.{refusalDiffersOf, callDiffersOf, differsOf, entryDiffersOf, entryOf, replayOf};
 use arithmetic::record::Lh5801;
 use libc::STDOUT_FILENO;
 use run::Answer;
@@ -51,7 +54,7 @@ fn wide(byte: u8) -> u64
 // The number of two bytes, the lower first.
 fn two(bytes: &[u8], at: usize) -> u64
     requires { ⌜ at + 2 ≤ length (now bytes) ⌝ }
-    ensures { λ r. ⌜ r ≤ 65535 ⌝ }
+    ensures { λ r. ⌜ (r ≡ twoOf (now (bytes .entry)) at) × (r ≤ 65535) ⌝ }
 {
     wide(bytes[at]) + 256 * wide(bytes[at + 1])
 }
@@ -59,7 +62,7 @@ fn two(bytes: &[u8], at: usize) -> u64
 // The number of four bytes, the lowest first.
 fn four(bytes: &[u8], at: usize) -> u64
     requires { ⌜ at + 4 ≤ length (now bytes) ⌝ }
-    ensures { λ r. ⌜ r ≤ 4294967295 ⌝ }
+    ensures { λ r. ⌜ (r ≡ fourOf (now (bytes .entry)) at) × (r ≤ 4294967295) ⌝ }
 {
     two(bytes, at) + 65536 * two(bytes, at + 2)
 }
@@ -67,7 +70,7 @@ fn four(bytes: &[u8], at: usize) -> u64
 // The number of eight bytes, the lowest first.
 fn eight(bytes: &[u8], at: usize) -> u64
     requires { ⌜ at + 8 ≤ length (now bytes) ⌝ }
-    ensures { λ r. ⌜ r ≤ 18446744073709551615 ⌝ }
+    ensures { λ r. ⌜ r ≡ eightOf (now (bytes .entry)) at ⌝ }
 {
     four(bytes, at) + 4294967296 * four(bytes, at + 4)
 }
@@ -75,7 +78,7 @@ fn eight(bytes: &[u8], at: usize) -> u64
 // The sums go on over the first bytes of a page.
 fn sums_over(page: &[u8], len: usize, before: Sums) -> Sums
     requires { ⌜ len ≤ length (now page) ⌝ }
-    ensures { λ r. ⌜ r .first ≤ 18446744073709551615 ⌝ }
+    ensures { λ r. ⌜ r ≡ sumsOf (take len (now (page .entry))) before ⌝ }
 {
     let mut first = before.first;
     let mut second = before.second;
@@ -93,7 +96,7 @@ fn sums_over(page: &[u8], len: usize, before: Sums) -> Sums
 
 // The sums go on over the first bytes of an array; where it has not so many, they are 0.
 fn sums_page(page: &[u8; 65537], len: usize, before: Sums) -> Sums
-    ensures { λ r. ⌜ r .first ≤ 18446744073709551615 ⌝ }
+    ensures { λ r. ⌜ r ≡ sumsPageOf (now (page .entry)) len before ⌝ }
 {
     if 65537 < len {
         return Sums {
@@ -107,7 +110,7 @@ fn sums_page(page: &[u8; 65537], len: usize, before: Sums) -> Sums
 // Bytes from a place on, to the start of a page.
 fn copy_part(bytes: &[u8], at: usize, page: &mut [u8], len: usize)
     requires { ⌜ (at + len ≤ length (now bytes)) × (len ≤ length (now page)) ⌝ }
-    ensures { λ _. ⌜ length (now (page .exit)) ≡ length (now (page .entry)) ⌝ }
+    ensures { λ _. ⌜ now (page .exit) ≡ atStart (now (page .entry)) (part (now (bytes .entry)) at len) ⌝ }
 {
     let mut i = 0;
     while i < len {
@@ -118,7 +121,7 @@ fn copy_part(bytes: &[u8], at: usize, page: &mut [u8], len: usize)
 
 // A page's bytes, from a place of the file on, to the start of a page; nothing where they are not all there or do not fit.
 fn copy_page(bytes: &[u8], at: usize, page: &mut [u8], len: usize)
-    ensures { λ _. ⌜ length (now (page .exit)) ≡ length (now (page .entry)) ⌝ }
+    ensures { λ _. ⌜ now (page .exit) ≡ copyPageOf (now (bytes .entry)) at (now (page .entry)) len ⌝ }
 {
     let all = bytes.len();
     if all < at {
@@ -135,7 +138,7 @@ fn copy_page(bytes: &[u8], at: usize, page: &mut [u8], len: usize)
 
 // The fill rule's byte at offset i from the one before it: a step on, and four steps on where a block of 256 begins, modulo 256.
 fn next_byte(byte: u8, step: u8, i: usize) -> u8
-    ensures { λ r. ⌜ r ≤ 255 ⌝ }
+    ensures { λ r. ⌜ r ≡ nextByteOf byte step i ⌝ }
 {
     let next = std::num::wrapping_add_u8(byte, step);
     if i % 256 == 0 {
@@ -148,7 +151,7 @@ fn next_byte(byte: u8, step: u8, i: usize) -> u8
 
 // The first bytes of a page by the fill rule.
 fn fill(page: &mut [u8], len: usize, first: u8, step: u8)
-    ensures { λ _. ⌜ length (now (page .exit)) ≡ length (now (page .entry)) ⌝ }
+    ensures { λ _. ⌜ now (page .exit) ≡ fillOf (now (page .entry)) len first step ⌝ }
 {
     let mut byte = first;
     let mut i = 0;
@@ -161,7 +164,7 @@ fn fill(page: &mut [u8], len: usize, first: u8, step: u8)
 
 // One byte of a page, where it is this page's and lies in it.
 fn set(page: &mut [u8], is_here: bool, offset: usize, byte: u8)
-    ensures { λ _. ⌜ length (now (page .exit)) ≡ length (now (page .entry)) ⌝ }
+    ensures { λ _. ⌜ now (page .exit) ≡ setOf (now (page .entry)) «is_here» offset byte ⌝ }
 {
     if is_here && offset < page.len() {
         page[offset] = byte;
@@ -170,7 +173,7 @@ fn set(page: &mut [u8], is_here: bool, offset: usize, byte: u8)
 
 // The bytes that are set after the fill rule in one page: in groups of four the offset in two bytes, the page, and the byte.
 fn patch(page: &mut [u8], which: u64, sets: &[u8])
-    ensures { λ _. ⌜ length (now (page .exit)) ≡ length (now (page .entry)) ⌝ }
+    ensures { λ _. ⌜ now (page .exit) ≡ patchOf (now (page .entry)) which (now (sets .entry)) ⌝ }
 {
     let mut i = 0;
     while 4 <= sets.len() - i {
@@ -191,7 +194,7 @@ fn prepare(
     count: usize,
     sets: &[u8],
 )
-    ensures { λ _. ⌜ length (now (page .exit)) ≡ length (now (page .entry)) ⌝ }
+    ensures { λ _. ⌜ now (page .exit) ≡ prepareOf (now (page .entry)) which len rule (now (file .entry)) at count (now (sets .entry)) ⌝ }
 {
     fill(page, len, rule.first, rule.step);
     copy_page(file, at, page, count);
@@ -208,7 +211,7 @@ fn run_parts(
     settings: Settings,
 ) -> Answer
     requires { ⌜ (len0 ≤ length (now page0)) × (len1 ≤ length (now page1)) ⌝ }
-    ensures { λ _. ⌜ (length (now (page0 .exit)) ≡ length (now (page0 .entry))) × (length (now (page1 .exit)) ≡ length (now (page1 .entry))) ⌝ }
+    ensures { λ r. ⌜ RunParts settings cpu (now (page0 .entry)) len0 (now (page1 .entry)) len1 r (now (page0 .exit)) (now (page1 .exit)) ⌝ }
 {
     run::run(cpu, &mut page0[..len0], &mut page1[..len1], settings)
 }
@@ -223,7 +226,7 @@ fn run_pages(
     settings: Settings,
 ) -> Answer
     requires { ⌜ (len0 ≤ 65537) × (len1 ≤ 65537) ⌝ }
-    ensures { λ _. ⌜ (length (now (page0 .exit)) ≡ length (now (page0 .entry))) × (length (now (page1 .exit)) ≡ length (now (page1 .entry))) ⌝ }
+    ensures { λ r. ⌜ RunParts settings cpu (now (page0 .entry)) len0 (now (page1 .entry)) len1 r (now (page0 .exit)) (now (page1 .exit)) ⌝ }
 {
     run_parts(cpu, page0, len0, page1, len1, settings)
 }
@@ -239,14 +242,15 @@ fn told_line(out: &mut [u8; 200], a: Answer) -> usize
 
 // 0 where the first bytes of a buffer, so many, are those of the wanted line, else 1.
 fn line_differs(out: &[u8; 200], n: usize, want: &[u8]) -> u64
-    ensures { λ r. ⌜ r ≤ 1 ⌝ }
+    ensures { λ r. ⌜ (r ≡ lineDiffersOf (now (out .entry)) n (now (want .entry))) × (r ≤ 1) ⌝ }
 {
+    let buffer: &[u8] = out;
     if n != want.len() {
         return 1;
     }
     let mut i = 0;
-    while i < want.len() && i < out.len() {
-        if out[i] != want[i] {
+    while i < want.len() && i < buffer.len() {
+        if buffer[i] != want[i] {
             return 1;
         }
         i += 1;
@@ -256,7 +260,7 @@ fn line_differs(out: &[u8; 200], n: usize, want: &[u8]) -> u64
 
 // 0 where the sums are the wanted ones, else 1.
 fn sums_differ(sums: Sums, want: Sums) -> u64
-    ensures { λ r. ⌜ r ≤ 1 ⌝ }
+    ensures { λ r. ⌜ (r ≡ sumsDifferOf sums want) × (r ≤ 1) ⌝ }
 {
     if sums.first == want.first && sums.second == want.second {
         0
@@ -267,7 +271,7 @@ fn sums_differ(sums: Sums, want: Sums) -> u64
 
 // 0 where neither differs, else 1.
 fn either(line: u64, sums: u64) -> u64
-    ensures { λ r. ⌜ r ≤ 1 ⌝ }
+    ensures { λ r. ⌜ (r ≡ eitherOf line sums) × (r ≤ 1) ⌝ }
 {
     if line == 0 && sums == 0 { 0 } else { 1 }
 }
@@ -284,7 +288,7 @@ fn call_differs(
     want_sums: Sums,
 ) -> u64
     requires { ⌜ (len0 ≤ 65537) × (len1 ≤ 65537) ⌝ }
-    ensures { λ r. ⌜ r ≤ 1 ⌝ }
+    ensures { λ r. ⌜ (r ≡ callDiffersOf (now (file .entry)) c len0 len1 rule (now (sets .entry)) (now (want .entry)) «want_sums») × (r ≤ 1) ⌝ }
 {
     let mut page0 = [0u8; 65537];
     let mut page1 = [0u8; 65537];
@@ -324,7 +328,7 @@ fn call_differs(
 
 // A file that was turned down: its line.
 fn refusal_differs(stop: Refusal, want: &[u8]) -> u64
-    ensures { λ r. ⌜ r ≤ 1 ⌝ }
+    ensures { λ r. ⌜ (r ≡ refusalDiffersOf stop (now (want .entry))) × (r ≤ 1) ⌝ }
 {
     let mut out = [0u8; 200];
     let n = line::refusal_line(&mut out, stop.number(), stop.offset() as u64);
@@ -341,7 +345,7 @@ fn differs(
     want: &[u8],
     want_sums: Sums,
 ) -> u64
-    ensures { λ r. ⌜ r ≤ 1 ⌝ }
+    ensures { λ r. ⌜ (r ≡ differsOf (now (file .entry)) len0 len1 rule (now (sets .entry)) (now (want .entry)) «want_sums») × (r ≤ 1) ⌝ }
 {
     if 65537 < len0 {
         return 1;
@@ -368,7 +372,7 @@ fn differs(
 // The place after the entry that begins here.
 fn end_of(bytes: &[u8], at: usize) -> usize
     requires { ⌜ at + 14 ≤ length (now bytes) ⌝ }
-    ensures { λ r. ⌜ at + 30 ≤ r ⌝ }
+    ensures { λ r. ⌜ (r ≡ endOf (now (bytes .entry)) at) × (at + 30 ≤ r) ⌝ }
 {
     at
         + 30
@@ -380,7 +384,7 @@ fn end_of(bytes: &[u8], at: usize) -> usize
 // The entry that begins here and ends there.
 fn entry_differs(bytes: &[u8], at: usize, end: usize) -> u64
     requires { ⌜ (at + 30 ≤ end) × (end ≤ length (now bytes)) ⌝ }
-    ensures { λ r. ⌜ r ≤ 1 ⌝ }
+    ensures { λ r. ⌜ (r ≡ entryDiffersOf (now (bytes .entry)) at end) × (r ≤ 1) ⌝ }
 {
     let len0 = four(bytes, at + 2);
     let len1 = four(bytes, at + 6);
@@ -419,7 +423,7 @@ struct Found {
 // The entry that begins here. One that is cut off counts as a call that differs, and ends the list.
 fn entry(bytes: &[u8], at: usize) -> Found
     requires { ⌜ at + 1 ≤ length (now bytes) ⌝ }
-    ensures { λ r. ⌜ (at + 1 ≤ r .end) × (r .end ≤ length (now (bytes .entry))) × (r .differs ≤ 1) ⌝ }
+    ensures { λ r. ⌜ (r ≡ entryOf (now (bytes .entry)) at) × (at + 1 ≤ r .end) × (r .end ≤ length (now (bytes .entry))) × (r .differs ≤ 1) ⌝ }
 {
     let all = bytes.len();
     if all - at < 14 {
@@ -444,7 +448,7 @@ fn entry(bytes: &[u8], at: usize) -> Found
 
 // The whole list.
 fn replay(bytes: &[u8]) -> Tally
-    ensures { λ r. ⌜ (r .differ ≤ r .calls) × (r .calls ≤ length (now (bytes .entry))) ⌝ }
+    ensures { λ r. ⌜ (r ≡ replayOf (now (bytes .entry))) × (r .differ ≤ r .calls) × (r .calls ≤ length (now (bytes .entry))) ⌝ }
 {
     let mut at = 0;
     let mut calls: u64 = 0;
@@ -489,7 +493,7 @@ fn replay_path(path: &[u8]) -> Tally
 
 // Both parts of the list, modulo 2^64.
 fn both(a: Tally, b: Tally) -> Tally
-    ensures { λ r. ⌜ r .calls ≤ 18446744073709551615 ⌝ }
+    ensures { λ r. ⌜ r ≡ bothOf a b ⌝ }
 {
     let calls = std::num::wrapping_add_u64(a.calls, b.calls);
     let differ = std::num::wrapping_add_u64(a.differ, b.differ);

@@ -1,19 +1,17 @@
+use Rattle.replay.specs.Calls.{outcomeOf, callDiffersOf}
+use Rattle.replay.proofs.Told.{call-told}
 use borrow.Author.Needs.{needs}
 use Rattle.replay.proofs.call_differs.Statement.{statement}
 use Rattle.replay.proofs.call_differs.Tie as tie
 
--- src/main.rt:268:13
--- src/main.rt:268:5
--- src/main.rt:269:13
--- src/main.rt:269:5
--- src/main.rt:272:9
--- src/main.rt:273:9
--- src/main.rt:278:9
--- src/main.rt:279:9
--- src/main.rt:280:12
--- src/main.rt:280:41
--- src/main.rt:280:5
--- src/main.rt:252:1
+returns : tie.Need-returns
+unfolding callDiffersOf outcomeOf
+returns c =
+    let start = c .before .before .before .before .before .before .before .before .before .before .before .before .before .before .before .before .before .before .before .before .before .before .before .before in (
+      call-told (start .args .want .now) (start .args .want-sums) (start .pre .0) (start .pre .1) (c .before .before .before .before .before .before .before .before .before .before .before .before .before .before .before .before .before .before .before .prepare .ensures) (c .before .before .before .before .before .before .before .before .before .before .before .before .before .before .before .before .prepare2 .ensures) (c .before .before .before .before .before .before .before .before .before .before .run-pages .ensures) (c .before .before .before .before .before .before .before .before .told-line .ensures) (c .before .before .before .before .before .before .sums-page .ensures) (c .before .before .before .before .sums-page2 .ensures) (c .before .before .line-differs .ensures .0) (c .before .sums-differ .ensures .0) (c .either .ensures .0),
+      c .either .ensures .1,
+    )
+
 pub call-differs-spec : {M : Type 1} → statement M
 call-differs-spec =
     tie.close
@@ -29,4 +27,4 @@ call-differs-spec =
     (λ c κs. search needs)
     (λ c κs. search needs)
     (λ c κs. search needs)
-    (λ c. search needs))
+    returns)

@@ -1,40 +1,41 @@
 use Prim.Native.Nat.{_-_, _≤_}
-use mathlib.Core.Path.{_≡_}
-use lib.ListN.{length}
+use native.Mathlib.Omega.{arith}
+use mathlib.Core.Path.{_≡_, refl, sym, _∙_}
+use lib.ListN.{length, drop}
+use Rattle.replay.specs.Bytes.{patchOf}
+use Rattle.replay.proofs.Stores.{one-patched, all-patched}
 use borrow.Author.Needs.{needs}
 use Rattle.replay.proofs.patch.Statement.{statement}
 use Rattle.replay.proofs.patch.Tie as tie
 
 abbrev Inv-loop : tie.InvT-loop
-Inv-loop page₀ which sets i₀ page i = (i ≤ length sets) × (length page ≡ length page₀)
+Inv-loop page₀ which sets i₀ page i =
+    (i ≤ length sets) × (length page ≡ length page₀) × (patchOf page which (drop i sets) ≡ patchOf page₀ which sets)
 
 abbrev μ-loop : tie.MeasureT-loop
 μ-loop page₀ which sets i₀ page i = length sets - i
 
--- src/main.rt:153:5
--- src/main.rt:153:16
--- src/main.rt:154:22
--- src/main.rt:155:29
--- src/main.rt:155:24
--- src/main.rt:155:19
--- src/main.rt:155:60
--- src/main.rt:155:55
--- src/main.rt:155:9
--- src/main.rt:156:9
--- src/main.rt:153:5
--- src/main.rt:153:5
--- src/main.rt:149:1
--- src/main.rt:149:1
+loop-holds : tie.Need-loop-holds Inv-loop μ-loop
+loop-holds c = (omega arith, refl, refl)
+
+loop-again : tie.Need-loop-again Inv-loop μ-loop
+loop-again c = (
+  search needs,
+  search needs,
+  rw (c .before .before .set .ensures, c .before .before .before .before .wide .ensures .0, c .before .before .before .before .before .before .before .two .ensures .0)
+      (sym (one-patched _ _ (c .before .before .before .before .before .before .before .before .before .before .before .before .args .sets .now) (c .before .before .before .before .before .before .before .before .before .loop .i) (c .before .before .before .before .before .before .before .before .loop-test .taken)) ∙ c .before .before .before .before .before .before .before .before .before .loop .inv .2),
+)
+
+returns : tie.Need-returns Inv-loop μ-loop
+returns c = sym (all-patched _ _ (c .before .before .before .before .args .sets .now) (c .before .loop .i) (c .loop-test .left)) ∙ c .before .loop .inv .2
+
 pub patch-spec : {M : Type 1} → statement M
 patch-spec =
     tie.close
     (tie.spec
     Inv-loop
     μ-loop
-    (λ c. search needs)
-    (λ c. search needs)
-    (λ c κs. search needs)
-    (λ c. search needs)
+    loop-holds
     (λ c. search needs)
     (λ c κs. search needs)
     (λ c. search needs)
@@ -42,6 +43,9 @@ patch-spec =
     (λ c κs. search needs)
     (λ c. search needs)
     (λ c. search needs)
+    (λ c κs. search needs)
     (λ c. search needs)
     (λ c. search needs)
-    (λ c. search needs))
+    loop-again
+    (λ c. search needs)
+    returns)

@@ -2,9 +2,6 @@ use borrow.Author.Needs.{needs}
 use Rattle.replay.proofs.told_line.Statement.{statement}
 use Rattle.replay.proofs.told_line.Tie as tie
 
--- src/main.rt:157:21
--- src/main.rt:157:5
--- src/main.rt:152:1
 returns : tie.Need-returns
 returns c = rw (c .before .number .ensures) at (c .line .ensures)
 

@@ -1,0 +1,23 @@
+-- The sums over one byte more.
+use Prim.Native.Nat.{ℕ, _+_, _≤_, _<_}
+use native.Mathlib.Numerals.{add-one}
+use mathlib.Core.List.{List, [], _∷_, _++_}
+use mathlib.Core.Path.{_≡_, refl, _∙_}
+use borrow.Author.Tests.{le-ltb}
+use lib.ListN.{length, take, getD}
+use lib.Seq.{take-suc}
+use Rattle.replay.specs.declared.Sums.{Sums}
+use Rattle.replay.specs.Numbers.{withByte, sumsOf, sumsPageOf}
+
+last-byte : (l : List ℕ) (b : ℕ) (s : Sums) → sumsOf (l ++ (b ∷ [])) s ≡ withByte (sumsOf l s) b
+unfolding sumsOf
+last-byte [] b s = refl
+last-byte (a ∷ l) b s = last-byte l b (withByte s a)
+
+pub one-more : (l : List ℕ) (i : ℕ) (s : Sums) → i < length l → sumsOf (take (i + 1) l) s ≡ withByte (sumsOf (take i l) s) (getD l i 0)
+one-more l i s h = rw (add-one, take-suc l i 0 h) (last-byte (take i l) (getD l i 0) s)
+
+-- the sums over the start of a page of 65,537
+pub page-sums : (page start : List ℕ) (len : ℕ) (s : Sums) → len ≤ 65537 → take len page ≡ start → sumsPageOf page len s ≡ sumsOf start s
+unfolding sumsPageOf
+page-sums page start len s h e = rw (le-ltb 65537 len h, e)

@@ -1,4 +1,4 @@
-pub mod OneMore
+pub mod Summed
 pub mod Stores
 pub mod Compared
 pub mod Told

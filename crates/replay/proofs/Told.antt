@@ -11,7 +11,7 @@ use Rattle.replay.specs.declared.Sums.{Sums}
 use Rattle.replay.specs.Numbers.{noSums, sumsPageOf, sumsDifferOf, eitherOf}
 use Rattle.replay.specs.Bytes.{runPartsOf, RunParts, lineDiffersOf}
 use Rattle.replay.specs.Calls.{outcomeDiffers}
-use Rattle.replay.proofs.OneMore.{page-sums}
+use Rattle.replay.proofs.Summed.{page-sums}
 use Rattle.replay.proofs.Compared.{printed-differs}
 
 pub call-told : {settings : Settings} {cpu : Lh5801} {p0 q0 p1 q1 : List ℕ} {len0 len1 : ℕ} {a : Answer} {after0 after1 out0 out : List ℕ} {n : ℕ} {s0 s1 : Sums} {l s r : ℕ}

@@ -38,21 +38,21 @@ setOf page here offset byte = cond here (set page offset byte) page
 
 -- a page with its bytes of the groups of four set, in their order: the offset in two bytes, the page, and the byte. Fewer than four bytes set nothing
 unfoldable pub patchOf : List ℕ → ℕ → List ℕ → List ℕ
-patchOf page which (low ∷ high ∷ here ∷ byte ∷ more) = patchOf (setOf page (eqb here which) (low + 256 * high) byte) which more
+patchOf page which (low ∷ high ∷ number ∷ byte ∷ more) = patchOf (setOf page (eqb number which) (low + 256 * high) byte) which more
 patchOf page which [] = page
 patchOf page which (low ∷ []) = page
 patchOf page which (low ∷ high ∷ []) = page
-patchOf page which (low ∷ high ∷ here ∷ []) = page
+patchOf page which (low ∷ high ∷ number ∷ []) = page
 
 -- a page before the call: the fill rule, then the file's bytes, then the bytes that are set
 unfoldable pub prepareOf : List ℕ → ℕ → ℕ → Rule → List ℕ → ℕ → ℕ → List ℕ → List ℕ
-prepareOf page which len rule file at count sets = patchOf (copyPageOf file at (fillOf page len (rule .first) (rule .step)) count) which sets
+prepareOf page which len rule file at count patches = patchOf (copyPageOf file at (fillOf page len (rule .first) (rule .step)) count) which patches
 
 -- the run call on the starts of two pages
 abbrev pub runPartsOf : Settings → Lh5801 → List ℕ → ℕ → List ℕ → ℕ → Outcome
 runPartsOf settings cpu page0 len0 page1 len1 = callOf settings cpu (record { page0 = take len0 page0; page1 = take len1 page1 })
 
--- what the run call on the starts of two pages tells and leaves: behind the starts the pages are as they were
+-- what the run call on the starts of two pages tells and leaves: after the starts the pages are as they were
 pub record RunParts (settings : Settings) (cpu : Lh5801) (page0 : List ℕ) (len0 : ℕ) (page1 : List ℕ) (len1 : ℕ) (r : Answer) (after0 after1 : List ℕ) : Type 0 where
   pub told : r ≡ runPartsOf settings cpu page0 len0 page1 len1 .told
   pub page0-is : take len0 after0 ≡ runPartsOf settings cpu page0 len0 page1 len1 .pages .page0

@@ -260,7 +260,7 @@ fn line_differs(out: &[u8; 200], n: usize, want: &[u8]) -> u64
 
 // 0 where the sums are the wanted ones, else 1.
 fn sums_differ(sums: Sums, want: Sums) -> u64
-    ensures { λ r. ⌜ (r ≡ sumsDifferOf sums want) × (r ≤ 1) ⌝ }
+    ensures { λ r. ⌜ r ≡ sumsDifferOf sums want ⌝ }
 {
     if sums.first == want.first && sums.second == want.second {
         0

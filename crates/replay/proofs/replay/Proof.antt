@@ -1,4 +1,3 @@
-use native.Mathlib.Omega.{arith}
 use Rattle.replay.proofs.Listed.{Counted, none-counted, one-counted, all-counted}
 use Prim.Native.Nat.{_-_, _≤_}
 use lib.ListN.{length}

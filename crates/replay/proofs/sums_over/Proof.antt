@@ -1,9 +1,9 @@
 use Prim.Native.Nat.{_-_, _≤_}
-use mathlib.Core.Path.{_≡_, refl, _∙_}
+use mathlib.Core.Path.{_≡_, refl}
 use native.Mathlib.Omega.{arith}
 use lib.ListN.{take}
 use Rattle.replay.specs.Numbers.{sumsOf}
-use Rattle.replay.proofs.OneMore.{one-more}
+use Rattle.replay.proofs.Summed.{one-more}
 use Rattle.run.proofs.Parts.{end}
 use borrow.Author.Needs.{needs}
 use Rattle.replay.proofs.sums_over.Statement.{statement}

@@ -1,8 +1,8 @@
--- The sums over one byte more.
+-- The sums over the first bytes of a page.
 use Prim.Native.Nat.{ℕ, _+_, _≤_, _<_}
 use native.Mathlib.Numerals.{add-one}
 use mathlib.Core.List.{List, [], _∷_, _++_}
-use mathlib.Core.Path.{_≡_, refl, _∙_}
+use mathlib.Core.Path.{_≡_, refl}
 use borrow.Author.Tests.{le-ltb}
 use lib.ListN.{length, take, getD}
 use lib.Seq.{take-suc}

@@ -22,7 +22,7 @@ use Rattle.execution.specs.declared.Outcome.{Outcome}
 use Rattle.execution.specs.declared.Outcome.the-variants.{Completed, Stopped}
 use Rattle.execution.specs.Instructions.{branchedOf, executeOf}
 use Rattle.execution.specs.States.{addedOf}
-use Rattle.execution.specs.Step.{off, frozen, entry, instruction, did, stopped, outcomeOf, fetchOf, decodedBy, unlistedBy, obeyOf, instructionOf, enteredOf, reachedOf, poweredOf, stepOf, isHeld, heldOf, timed}
+use Rattle.execution.specs.Step.{off, frozen, entry, instruction, did, stopped, outcomeOf, fetchOf, decodedBy, unlistedBy, obeyOf, instructionOf, enteredOf, reachedOf, poweredOf, stepOf, heldOf, timed}
 
 -- a choice by a test that is known. (`rw` with the test would change the record's field too)
 pub chosen-first : {A : Type 0} {b : Bool} (x y : A) → b ≡ true → cond b x y ≡ x
@@ -75,7 +75,7 @@ answered-tm m = go (m .ir1)
 
 -- the one test before the instruction
 abbrev test : Bool → Bool → Bool → Bool → Bool → Bool
-test ir0 ir1 ir2 e h = (ir0 || h) || ((ir1 || ir2) && e)
+test ir0 ir1 ir2 e h = (ir0 || ((ir1 || ir2) && e)) || h
 
 module _ {A : Type 0} (a b c d f : A) where
   slow : (ir0 ir1 ir2 e h : Bool) → test ir0 ir1 ir2 e h ≡ true
@@ -98,16 +98,13 @@ module _ {A : Type 0} (a b c d f : A) where
   free : (ir0 ir1 ir2 e h : Bool) → test ir0 ir1 ir2 e h ≡ false
       → cond ir0 a (cond (ir1 && e) b (cond (ir2 && e) c (cond h d f))) ≡ f
   free true ir1 ir2 e h t = cc
-  free false true true true true t = cc
-  free false true true true false t = cc
+  free false true true true h t = cc
   free false true true false true t = cc
   free false true true false false t = refl
-  free false true false true true t = cc
-  free false true false true false t = cc
+  free false true false true h t = cc
   free false true false false true t = cc
   free false true false false false t = refl
-  free false false true true true t = cc
-  free false false true true false t = cc
+  free false false true true h t = cc
   free false false true false true t = cc
   free false false true false false t = refl
   free false false false true true t = cc
@@ -116,13 +113,13 @@ module _ {A : Type 0} (a b c d f : A) where
   free false false false false false t = refl
 
 module _ (m : Lh5801) (key : ℕ) (e : Bool) (enabled : e ≡ hasFlag (m .t) IE) where
-  pub powered-held : isHeld m e ≡ true → poweredOf m key ≡ heldOf m e
+  pub powered-held : test (m .ir0) (m .ir1) (m .ir2) e (m .«is_halted») ≡ true → poweredOf m key ≡ heldOf m e
   unfolding poweredOf heldOf
   powered-held t =
       rw (← enabled)
       (slow (done (did (timerPartOf m) 0 frozen)) (enteredOf (with-ir1 m false) 0xFFFA) (enteredOf (with-ir2 m false) 0xFFF8) (done (stopped Halted)) (instructionOf m key) (m .ir0) (m .ir1) (m .ir2) e (m .«is_halted») t)
 
-  pub powered-free : isHeld m e ≡ false → poweredOf m key ≡ instructionOf m key
+  pub powered-free : test (m .ir0) (m .ir1) (m .ir2) e (m .«is_halted») ≡ false → poweredOf m key ≡ instructionOf m key
   unfolding poweredOf
   powered-free t =
       rw (← enabled)

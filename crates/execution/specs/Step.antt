@@ -1,6 +1,6 @@
 -- One step (document 01, "One step"), in its order.
 use Prim.Native.Nat.{ℕ, _+_, _<_}
-use mathlib.Core.Bool.{Bool, true, false, _&&_, _||_, cond}
+use mathlib.Core.Bool.{Bool, true, false, _&&_, cond}
 use lib.Dec.{eqb}
 use Rattle.arithmetic.specs.declared.record.Lh5801.{Lh5801}
 use Rattle.arithmetic.specs.Record.{with-p, with-ir1, with-ir2, with-is-timer-reached}
@@ -107,10 +107,6 @@ poweredOf m key =
 -- "BF clear: 8 states, nothing else, no timer part"
 unfoldable pub stepOf : Lh5801 → ℕ → Prog StepEnd
 stepOf m key = cond (m .bf) (poweredOf (reachedOf m) key) (done (did (addStateOf m 8) 8 off))
-
--- the code's test before the instruction: none is due
-abbrev pub isHeld : Lh5801 → Bool → Bool
-isHeld m enabled = (m .ir0 || m .«is_halted») || ((m .ir1 || m .ir2) && enabled)
 
 -- the slow path of the code: nothing is executed
 unfoldable pub heldOf : Lh5801 → Bool → Prog StepEnd

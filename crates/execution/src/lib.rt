@@ -6,7 +6,7 @@ ghost use Rattle.arithmetic.specs.Record.{with-ir1, with-ir2};
 ghost use Rattle.pages.specs.Prog.{mapped};
 ghost use Rattle.pages.specs.Contract.{Changes, Reads};
 ghost use Rattle.execution.specs.Instructions.{executeOf};
-ghost use Rattle.execution.specs.Step.{outcomeOf, fetchOf, decodedBy, unlistedBy, instructionOf, reachedOf, poweredOf, stepOf, isHeld, heldOf, timed, TimerFits};
+ghost use Rattle.execution.specs.Step.{outcomeOf, fetchOf, decodedBy, unlistedBy, instructionOf, reachedOf, poweredOf, stepOf, heldOf, timed, TimerFits};
 use crate::instructions::Decoded;
 use crate::instructions::Instruction;
 use arithmetic::record::Lh5801;
@@ -194,29 +194,14 @@ fn held(cpu: Lh5801, page0: &mut [u8], page1: &mut [u8], enabled: bool) -> Outco
     Outcome::Stopped(Stop::Halted)
 }
 
-// Whether no instruction is due: IR0 is set, or the unit is halted, or a request is enabled.
-fn is_held(cpu: Lh5801, enabled: bool) -> bool
-    ensures { λ r. ⌜ r ≡ isHeld cpu enabled ⌝ }
-{
-    if cpu.ir0 {
-        return true;
-    }
-    if cpu.is_halted {
-        return true;
-    }
-    if cpu.ir1 | cpu.ir2 {
-        return enabled;
-    }
-    false
-}
-
-// A step with BF set, before its timer part.
+// A step with BF set, before its timer part: one test tells whether an instruction is due.
 fn powered(cpu: Lh5801, page0: &mut [u8], page1: &mut [u8], keyboard: u8) -> Outcome
     requires { ⌜ cpu .tm < 512 ⌝ }
     ensures { λ r. ⌜ Changes (mapped outcomeOf (poweredOf cpu keyboard)) page0 page1 (timed r) × TimerFits r ⌝ }
 {
     let enabled = arithmetic::get_flag(cpu.t, arithmetic::IE);
-    if is_held(cpu, enabled) {
+    let interrupted = (cpu.ir1 | cpu.ir2) & enabled;
+    if cpu.ir0 | interrupted | cpu.is_halted {
         held(cpu, page0, page1, enabled)
     } else {
         instruction(cpu, page0, page1, keyboard)

@@ -5,6 +5,9 @@ pub mod Order
 pub mod Programs
 pub mod Counters
 pub mod Ways
+pub mod DueTest
+pub mod DueAgain
+pub mod Arms
 pub mod StepKeeps
 pub mod OpcodeRead
 pub mod StepStates

@@ -1,6 +1,6 @@
--- The code's way through a step is the definition's: one test before the instruction, and the slow path behind it.
+-- The code's way through a step is the definition's: one test tells whether an instruction is due.
 use Prim.Native.Nat.{ℕ, _+_}
-use mathlib.Core.Bool.{Bool, true, false, _&&_, _||_, cond}
+use mathlib.Core.Bool.{Bool, true, false, _&&_, _||_, cond, true≢false, false≢true}
 use mathlib.Core.Path.{_≡_, refl, sym, ap, subst, _∙_}
 use Rattle.arithmetic.specs.declared.record.Lh5801.{Lh5801}
 use Rattle.arithmetic.specs.declared.Looped.{Looped}
@@ -8,7 +8,7 @@ use Rattle.arithmetic.specs.Shifts.{lopOf as loopedOf}
 use Rattle.arithmetic.specs.Record.{with-u, with-p, with-ir1, with-ir2, with-is-timer-reached}
 use Rattle.arithmetic.specs.Flags.{IE, hasFlag}
 use Rattle.pages.specs.Pages.{Pages}
-use Rattle.pages.specs.Prog.{Prog, done, mapped}
+use Rattle.pages.specs.Prog.{done, mapped}
 use Rattle.pages.specs.Contract.{Does}
 use Rattle.pages.specs.Stack.{entryOf}
 use Rattle.pages.specs.Timer.{addStateOf, timerPartOf}
@@ -18,11 +18,13 @@ use Rattle.execution.specs.declared.instructions.Decoded.the-variants.{L
 use Rattle.execution.specs.declared.Fetched.{Fetched}
 use Rattle.execution.specs.declared.Stop.{Stop}
 use Rattle.execution.specs.declared.Stop.the-variants.{Halted}
-use Rattle.execution.specs.declared.Outcome.{Outcome}
 use Rattle.execution.specs.declared.Outcome.the-variants.{Completed, Stopped}
 use Rattle.execution.specs.Instructions.{branchedOf, executeOf}
 use Rattle.execution.specs.States.{addedOf}
-use Rattle.execution.specs.Step.{off, frozen, entry, instruction, did, stopped, outcomeOf, fetchOf, decodedBy, unlistedBy, obeyOf, instructionOf, enteredOf, reachedOf, poweredOf, stepOf, heldOf, timed}
+use Rattle.execution.specs.Step.{off, frozen, entry, instruction, did, stopped, outcomeOf, fetchOf, decodedBy, unlistedBy, obeyOf, instructionOf, enteredOf, reachedOf, poweredOf, stepOf}
+use Rattle.execution.specs.Due.{dueBy, dueOf, Ready}
+use Rattle.execution.proofs.Tests.{reached-same, unheld}
+use Rattle.execution.proofs.DueTest.{due-is}
 
 -- a choice by a test that is known. (`rw` with the test would change the record's field too)
 pub chosen-first : {A : Type 0} {b : Bool} (x y : A) → b ≡ true → cond b x y ≡ x
@@ -57,12 +59,8 @@ module _ (m : Lh5801) where
 
 -- which keeps TM
 pub reached-tm : (m : Lh5801) → reachedOf m .tm ≡ m .tm
-unfolding reachedOf with-is-timer-reached with-ir1
-reached-tm m = go (m .«is_timer_reached»)
-  where
-    go : (b : Bool) → cond b (with-is-timer-reached (with-ir1 m true) false) m .tm ≡ m .tm
-    go true = refl
-    go false = refl
+unfolding with-is-timer-reached with-ir1
+reached-tm m = reached-same m (λ k. k .tm) refl
 
 -- and so does clearing the request that is entered
 pub answered-tm : (m : Lh5801) → cond (m .ir1) (with-ir1 m false) (with-ir2 m false) .tm ≡ m .tm
@@ -73,57 +71,23 @@ answered-tm m = go (m .ir1)
     go true = refl
     go false = refl
 
--- the one test before the instruction
-abbrev test : Bool → Bool → Bool → Bool → Bool → Bool
-test ir0 ir1 ir2 e h = (ir0 || ((ir1 || ir2) && e)) || h
+-- the test for an instruction does not pass, BF is set and nothing else holds: halted
+test-halted : (bf ir0 ir1 r ir2 e h : Bool) → dueBy bf ir0 ir1 r ir2 e h ≡ false → bf ≡ true → r ≡ false → ir0 ≡ false → ((ir1 || ir2) && e) ≡ false
+    → h ≡ true
+test-halted false ir0 ir1 r ir2 e h t b z i n = absurd (false≢true b)
+test-halted true true ir1 r ir2 e h t b z i n = absurd (true≢false i)
+test-halted true false ir1 true ir2 e h t b z i n = absurd (true≢false z)
+test-halted true false ir1 false ir2 e true t b z i n = refl
+test-halted true false true false ir2 true false t b z i n = absurd (true≢false n)
+test-halted true false true false ir2 false false t b z i n = absurd (true≢false t)
+test-halted true false false false true true false t b z i n = absurd (true≢false n)
+test-halted true false false false true false false t b z i n = absurd (true≢false t)
+test-halted true false false false false e false t b z i n = absurd (true≢false t)
 
-module _ {A : Type 0} (a b c d f : A) where
-  slow : (ir0 ir1 ir2 e h : Bool) → test ir0 ir1 ir2 e h ≡ true
-      → cond ir0 a (cond (ir1 && e) b (cond (ir2 && e) c (cond h d f))) ≡ cond ir0 a (cond (ir1 && e) b (cond (ir2 && e) c d))
-  slow true ir1 ir2 e h t = refl
-  slow false true true true h t = refl
-  slow false true true false true t = refl
-  slow false true true false false t = cc
-  slow false true false true h t = refl
-  slow false true false false true t = refl
-  slow false true false false false t = cc
-  slow false false true true h t = refl
-  slow false false true false true t = refl
-  slow false false true false false t = cc
-  slow false false false true true t = refl
-  slow false false false true false t = cc
-  slow false false false false true t = refl
-  slow false false false false false t = cc
-
-  free : (ir0 ir1 ir2 e h : Bool) → test ir0 ir1 ir2 e h ≡ false
-      → cond ir0 a (cond (ir1 && e) b (cond (ir2 && e) c (cond h d f))) ≡ f
-  free true ir1 ir2 e h t = cc
-  free false true true true h t = cc
-  free false true true false true t = cc
-  free false true true false false t = refl
-  free false true false true h t = cc
-  free false true false false true t = cc
-  free false true false false false t = refl
-  free false false true true h t = cc
-  free false false true false true t = cc
-  free false false true false false t = refl
-  free false false false true true t = cc
-  free false false false true false t = refl
-  free false false false false true t = cc
-  free false false false false false t = refl
-
-module _ (m : Lh5801) (key : ℕ) (e : Bool) (enabled : e ≡ hasFlag (m .t) IE) where
-  pub powered-held : test (m .ir0) (m .ir1) (m .ir2) e (m .«is_halted») ≡ true → poweredOf m key ≡ heldOf m e
-  unfolding poweredOf heldOf
-  powered-held t =
-      rw (← enabled)
-      (slow (done (did (timerPartOf m) 0 frozen)) (enteredOf (with-ir1 m false) 0xFFFA) (enteredOf (with-ir2 m false) 0xFFF8) (done (stopped Halted)) (instructionOf m key) (m .ir0) (m .ir1) (m .ir2) e (m .«is_halted») t)
-
-  pub powered-free : test (m .ir0) (m .ir1) (m .ir2) e (m .«is_halted») ≡ false → poweredOf m key ≡ instructionOf m key
-  unfolding poweredOf
-  powered-free t =
-      rw (← enabled)
-      (free (done (did (timerPartOf m) 0 frozen)) (enteredOf (with-ir1 m false) 0xFFFA) (enteredOf (with-ir2 m false) 0xFFF8) (done (stopped Halted)) (instructionOf m key) (m .ir0) (m .ir1) (m .ir2) e (m .«is_halted») t)
+-- timer reached moving to IR1 does not change the test
+test-moved : (bf ir0 ir1 ir2 e h : Bool) → dueBy bf ir0 true false ir2 e h ≡ dueBy bf ir0 ir1 true ir2 e h
+test-moved bf ir0 true ir2 e h = refl
+test-moved bf ir0 false ir2 e h = refl
 
 -- the slow path by its tests: an enabled request is entered, IR1 before IR2, or none is
 module _ {A B : Type 0} (f : B → ℕ → A) (a d : A) (x y : B) where
@@ -146,28 +110,78 @@ module _ {A B : Type 0} (f : B → ℕ → A) (a d : A) (x y : B) where
   no-request false false true false z t = refl
   no-request false false false e z t = refl
 
-module _ (m : Lh5801) (e : Bool) where
-  pub held-frozen : {p : Pages} → m .ir0 ≡ true → Does (mapped outcomeOf (heldOf m e)) p (timed (Completed m)) p
-  unfolding heldOf
-  held-frozen a =
-      rw (chosen-first (done (did (timerPartOf m) 0 frozen)) (cond (m .ir1 && e) (enteredOf (with-ir1 m false) 0xFFFA) (cond (m .ir2 && e) (enteredOf (with-ir2 m false) 0xFFF8) (done (stopped Halted)))) a)
-      (does-mapped outcomeOf {r = did (timerPartOf m) 0 frozen} (does-done refl))
+-- a step with BF set, by what is tested; timer reached is clear
+module _ (m : Lh5801) (key : ℕ) (on : m .bf ≡ true) (clear : m .«is_timer_reached» ≡ false) where
+  step-powered : stepOf m key ≡ poweredOf m key
+  unfolding stepOf
+  step-powered =
+      chosen-first (poweredOf (reachedOf m) key) (done (did (addStateOf m 8) 8 off)) on ∙ ap (λ (k : Lh5801). poweredOf k key) (reached-stays m clear)
 
-  pub held-entered : {p q : Pages} {l k : Lh5801} {vector : ℕ} → m .ir0 ≡ false → ((m .ir1 || m .ir2) && e) ≡ true
-      → l ≡ cond (m .ir1) (with-ir1 m false) (with-ir2 m false)
-      → vector ≡ cond (m .ir1) 0xFFFA 0xFFF8
-      → Does (entryOf l vector) p k q
-      → Does (mapped outcomeOf (heldOf m e)) p (timed (Completed k)) q
-  unfolding heldOf enteredOf
-  held-entered {k = k} {vector = vector} a b u v d =
-      rw (some-request enteredOf (done (did (timerPartOf m) 0 frozen)) (done (stopped Halted)) (with-ir1 m false) (with-ir2 m false) (m .ir0) (m .ir1) (m .ir2) e a b, ← u, ← v)
-      (does-mapped outcomeOf {r = did (timerPartOf k) 0 (entry vector)} (does-then _ d (does-done refl)))
+  pub step-frozen : {p : Pages} {r : Lh5801} → m .ir0 ≡ true → r ≡ timerPartOf m → Does (mapped outcomeOf (stepOf m key)) p (Completed r) p
+  unfolding poweredOf
+  step-frozen {r = r} a f =
+      rw (step-powered, chosen-first (done (did (timerPartOf m) 0 frozen)) _ a)
+      (does-mapped outcomeOf {r = did r 0 frozen} (does-done (ap (λ (x : Lh5801). did x 0 frozen) f)))
 
-  pub held-halted : {p : Pages} → m .ir0 ≡ false → ((m .ir1 || m .ir2) && e) ≡ false → Does (mapped outcomeOf (heldOf m e)) p (timed (Stopped Halted)) p
-  unfolding heldOf
-  held-halted a b =
-      rw (no-request enteredOf (done (did (timerPartOf m) 0 frozen)) (done (stopped Halted)) (with-ir1 m false) (with-ir2 m false) (m .ir0) (m .ir1) (m .ir2) e a b)
-      (does-mapped outcomeOf {r = stopped Halted} (does-done refl))
+  module _ (e : Bool) (enabled : e ≡ hasFlag (m .t) IE) (free : m .ir0 ≡ false) where
+    pub step-entered : {p q : Pages} {l k r : Lh5801} {vector : ℕ} → ((m .ir1 || m .ir2) && e) ≡ true
+        → l ≡ cond (m .ir1) (with-ir1 m false) (with-ir2 m false)
+        → vector ≡ cond (m .ir1) 0xFFFA 0xFFF8
+        → Does (entryOf l vector) p k q
+        → r ≡ timerPartOf k
+        → Does (mapped outcomeOf (stepOf m key)) p (Completed r) q
+    unfolding poweredOf enteredOf
+    step-entered {r = r} {vector = vector} b u v d f =
+        rw (step-powered, ← enabled, some-request enteredOf (done (did (timerPartOf m) 0 frozen)) (cond (m .«is_halted») (done (stopped Halted)) (instructionOf m key)) (with-ir1 m false) (with-ir2 m false) (m .ir0) (m .ir1) (m .ir2) e free b, ← u, ← v)
+        (does-mapped outcomeOf {r = did r 0 (entry vector)} (does-then _ d (does-done (ap (λ (x : Lh5801). did x 0 (entry vector)) f))))
+
+    pub step-halted : {p : Pages} → ((m .ir1 || m .ir2) && e) ≡ false → dueOf m ≡ false → Does (mapped outcomeOf (stepOf m key)) p (Stopped Halted) p
+    unfolding poweredOf
+    step-halted b n =
+        let h : m .«is_halted» ≡ true = test-halted (m .bf) (m .ir0) (m .ir1) (m .«is_timer_reached») (m .ir2) (hasFlag (m .t) IE) (m .«is_halted») n on clear free (rw (← enabled) b) in
+        rw (step-powered, ← enabled, no-request enteredOf (done (did (timerPartOf m) 0 frozen)) (cond (m .«is_halted») (done (stopped Halted)) (instructionOf m key)) (with-ir1 m false) (with-ir2 m false) (m .ir0) (m .ir1) (m .ir2) e free b, chosen-first (done (stopped Halted)) (instructionOf m key) h)
+        (does-mapped outcomeOf {r = stopped Halted} (does-done refl))
+
+-- where an instruction is due, the step is its
+pub step-due : (m : Lh5801) (key : ℕ) → Ready m → stepOf m key ≡ instructionOf m key
+step-due m key h =
+    let d = due-is m .0 (h .due) in
+    unheld m key (d .on) (d .free) (d .none)
+    ∙ chosen-second (done (stopped Halted)) (instructionOf (reachedOf m) key) (d .running)
+    ∙ ap (λ (k : Lh5801). instructionOf k key) (reached-stays m (h .clear))
+
+-- timer reached moved to IR1: the same step, and an instruction is due or not as before
+module _ (m : Lh5801) where
+  pub reached-clear : reachedOf m .«is_timer_reached» ≡ false
+  unfolding reachedOf with-is-timer-reached with-ir1
+  reached-clear = go (m .«is_timer_reached») refl
+    where
+      go : (b : Bool) → m .«is_timer_reached» ≡ b → cond b (with-is-timer-reached (with-ir1 m true) false) m .«is_timer_reached» ≡ false
+      go true e = refl
+      go false e = e
+
+  pub reached-bf : reachedOf m .bf ≡ m .bf
+  unfolding with-is-timer-reached with-ir1
+  reached-bf = reached-same m (λ k. k .bf) refl
+
+  pub reached-due : dueOf (reachedOf m) ≡ dueOf m
+  unfolding reachedOf with-is-timer-reached with-ir1
+  reached-due = go (m .«is_timer_reached») refl
+    where
+      go : (b : Bool) → m .«is_timer_reached» ≡ b → dueOf (cond b (with-is-timer-reached (with-ir1 m true) false) m) ≡ dueOf m
+      go true e =
+          test-moved (m .bf) (m .ir0) (m .ir1) (m .ir2) (hasFlag (m .t) IE) (m .«is_halted»)
+          ∙ ap (λ (r : Bool). dueBy (m .bf) (m .ir0) (m .ir1) r (m .ir2) (hasFlag (m .t) IE) (m .«is_halted»)) (sym e)
+      go false e = refl
+
+  pub reached-ready : dueOf m ≡ true → Ready (reachedOf m)
+  reached-ready h = record { due = reached-due ∙ h; clear = reached-clear }
+
+  pub step-reached : (key : ℕ) → m .bf ≡ true → stepOf (reachedOf m) key ≡ stepOf m key
+  unfolding stepOf
+  step-reached key on =
+      step-powered (reachedOf m) key (reached-bf ∙ on) reached-clear
+      ∙ sym (chosen-first (poweredOf (reachedOf m) key) (done (did (addStateOf m 8) 8 off)) on)
 
 -- an instruction, by what its byte decodes to
 module _ (m : Lh5801) (key : ℕ) where
@@ -190,21 +204,9 @@ module _ (m : Lh5801) (key : ℕ) where
   unfolding instructionOf obeyOf
   instruction-unlisted {s = s} f e t = does-mapped outcomeOf {r = stopped s} (does-then _ f (rw e (does-done (ap stopped t))))
 
-module _ (m : Lh5801) (key : ℕ) where
-  pub step-on : m .bf ≡ true → stepOf m key ≡ poweredOf (reachedOf m) key
-  unfolding stepOf
-  step-on e = chosen-first (poweredOf (reachedOf m) key) (done (did (addStateOf m 8) 8 off)) e
-
-  pub step-off : {p : Pages} {r : Lh5801} → m .bf ≡ false → r ≡ addStateOf m 8 → Does (mapped outcomeOf (stepOf m key)) p (Completed r) p
-  unfolding stepOf
-  step-off {r = r} e f =
-      rw (chosen-second (poweredOf (reachedOf m) key) (done (did (addStateOf m 8) 8 off)) e)
-      (does-mapped outcomeOf {r = did r 8 off} (does-done (ap (λ (x : Lh5801). did x 8 off) f)))
-
--- what a step comes to, by what it was before its timer part
-module _ {A : Prog Outcome} {p q : Pages} {o : Outcome} (d : Does A p (timed o) q) where
-  pub step-completed : {k r : Lh5801} → o ≡ Completed k → r ≡ timerPartOf k → Does A p (Completed r) q
-  step-completed e f = rw f (subst (λ (x : Outcome). Does A p (timed x) q) e d)
-
-  pub step-stopped : {s : Stop} → o ≡ Stopped s → Does A p (Stopped s) q
-  step-stopped e = subst (λ (x : Outcome). Does A p (timed x) q) e d
+-- a step with BF clear
+pub step-off : (m : Lh5801) (key : ℕ) {p : Pages} {r : Lh5801} → m .bf ≡ false → r ≡ addStateOf m 8 → Does (mapped outcomeOf (stepOf m key)) p (Completed r) p
+unfolding stepOf
+step-off m key {r = r} e f =
+    rw (chosen-second (poweredOf (reachedOf m) key) (done (did (addStateOf m 8) 8 off)) e)
+    (does-mapped outcomeOf {r = did r 8 off} (does-done (ap (λ (x : Lh5801). did x 8 off) f)))

@@ -48,7 +48,7 @@ opened b z e l p q = rw (p, q)
 
 module _ (m : Lh5801) where
   -- a field that "Timer reached moves to IR1" leaves
-  reached-same : {A : Type 0} (f : Lh5801 → A) → f (moved m) ≡ f m → f (reachedOf m) ≡ f m
+  pub reached-same : {A : Type 0} (f : Lh5801 → A) → f (moved m) ≡ f m → f (reachedOf m) ≡ f m
   unfolding reachedOf
   reached-same f e = cond-both (λ k. f k ≡ f m) (m .«is_timer_reached») (moved m) m e refl
 

@@ -8,5 +8,6 @@ pub mod Listed
 pub mod States
 pub mod Stops
 pub mod Step
+pub mod Due
 pub mod Counters
 pub mod Conditions

@@ -1,5 +1,5 @@
 -- One step (document 01, "One step"), in its order.
-use Prim.Native.Nat.{ℕ, _+_, _<_}
+use Prim.Native.Nat.{ℕ, _+_}
 use mathlib.Core.Bool.{Bool, true, false, _&&_, cond}
 use lib.Dec.{eqb}
 use Rattle.arithmetic.specs.declared.record.Lh5801.{Lh5801}
@@ -107,21 +107,3 @@ poweredOf m key =
 -- "BF clear: 8 states, nothing else, no timer part"
 unfoldable pub stepOf : Lh5801 → ℕ → Prog StepEnd
 stepOf m key = cond (m .bf) (poweredOf (reachedOf m) key) (done (did (addStateOf m 8) 8 off))
-
--- the slow path of the code: nothing is executed
-unfoldable pub heldOf : Lh5801 → Bool → Prog StepEnd
-heldOf m enabled =
-    cond (m .ir0) (done (did (timerPartOf m) 0 frozen))
-    (cond (m .ir1 && enabled) (enteredOf (with-ir1 m false) 0xFFFA)
-    (cond (m .ir2 && enabled) (enteredOf (with-ir2 m false) 0xFFF8)
-    (done (stopped Halted))))
-
--- the code does the timer part in one place, after any completed step with BF set
-abbrev pub timed : Outcome → Outcome
-timed (Completed m) = Completed (timerPartOf m)
-timed (Stopped s) = Stopped s
-
--- and TM fits its nine bits before it
-abbrev pub TimerFits : Outcome → Type 0
-TimerFits (Completed m) = m .tm < 512
-TimerFits (Stopped s) = Unit

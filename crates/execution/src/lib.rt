@@ -1,14 +1,17 @@
 // Decoding and execution of one instruction, and one step.
 ghost use mathlib.Core.Path.{_≡_};
-ghost use mathlib.Core.Bool.{false, cond};
+ghost use mathlib.Core.Bool.{true, false, cond};
 ghost use Prim.Native.Nat.{_<_};
 ghost use Rattle.arithmetic.specs.Record.{with-ir1, with-ir2};
 ghost use Rattle.pages.specs.Prog.{mapped};
 ghost use Rattle.pages.specs.Contract.{Changes, Reads};
 ghost use Rattle.execution.specs.Instructions.{executeOf};
-ghost use Rattle.execution.specs.Step.{outcomeOf, fetchOf, decodedBy, unlistedBy, instructionOf, reachedOf, poweredOf, stepOf, heldOf, timed, TimerFits};
+ghost use Rattle.execution.specs.Step.{outcomeOf, fetchOf, decodedBy, unlistedBy, reachedOf, stepOf};
+ghost use Rattle.execution.specs.Due.{dueOf, Ready, settledOnA, settledSignal, settledOf, outcomeIn, DueAgain, Waits};
+use crate::instructions::Accumulator;
 use crate::instructions::Decoded;
 use crate::instructions::Instruction;
+use crate::instructions::Signal;
 use arithmetic::record::Lh5801;
 
 pub mod entries;
@@ -32,6 +35,13 @@ pub struct Fetched {
     pub fd: bool,
     pub byte: u8,
     pub p: u16,
+}
+
+// How the step of an instruction ends: completed, with an instruction due again or not, or with a stop.
+pub enum Executed {
+    Again(Lh5801),
+    Completed(Lh5801),
+    Stopped(Stop),
 }
 
 // A completed step with the record after it, or a stop.
@@ -134,23 +144,68 @@ fn unlisted(fd: bool, byte: u8) -> Stop
     }
 }
 
-// One instruction and its states; or the stop of an unlisted byte.
-fn instruction(cpu: Lh5801, page0: &mut [u8], page1: &mut [u8], keyboard: u8) -> Outcome
-    requires { ⌜ cpu .tm < 512 ⌝ }
-    ensures { λ r. ⌜ Changes (mapped outcomeOf (instructionOf cpu keyboard)) page0 page1 (timed r) × TimerFits r ⌝ }
+// Does an operation on A keep IE?
+fn settled_on_a(o: Accumulator) -> bool
+    ensures { λ r. ⌜ r ≡ settledOnA o ⌝ }
+{
+    match o {
+        Accumulator::Att => false,
+        _ => true,
+    }
+}
+
+// Does a signal?
+fn settled_signal(s: Signal) -> bool
+    ensures { λ r. ⌜ r ≡ settledSignal s ⌝ }
+{
+    match s {
+        Signal::InterruptEnable => false,
+        _ => true,
+    }
+}
+
+// Does an instruction keep BF, halted and IE?
+fn settled(i: Instruction) -> bool
+    ensures { λ r. ⌜ r ≡ settledOf i ⌝ }
+{
+    match i {
+        Instruction::Rti => false,
+        Instruction::Accumulator(o) => settled_on_a(o),
+        Instruction::Signal(s, value) => settled_signal(s),
+        Instruction::Off => false,
+        Instruction::Hlt => false,
+        _ => true,
+    }
+}
+
+// The step of an instruction that is due: the record after it, and whether an instruction is due again; or the stop of an unlisted byte.
+pub fn instruction(cpu: Lh5801, page0: &mut [u8], page1: &mut [u8], keyboard: u8) -> Executed
+    requires { ⌜ (cpu .tm < 512) × Ready cpu ⌝ }
+    ensures { λ r. ⌜ Changes (mapped outcomeOf (stepOf cpu keyboard)) page0 page1 (outcomeIn r) × DueAgain r ⌝ }
 {
     let o = fetch(cpu.p, page0, page1);
     match decode(o.fd, o.byte) {
         Decoded::Listed(i, states) => {
             let next = execute(cpu.with_p(o.p), page0, page1, keyboard, i);
-            Outcome::Completed(pages::add_state(next, states))
+            let now = pages::add_state(next, states);
+            // Asked before the timer part: after it, each step costs nine machine instructions more.
+            if settled(i) {
+                let k = pages::timer_part(now);
+                if k.is_timer_reached {
+                    Executed::Completed(k)
+                } else {
+                    Executed::Again(k)
+                }
+            } else {
+                Executed::Completed(pages::timer_part(now))
+            }
         }
-        Decoded::Unlisted => Outcome::Stopped(unlisted(o.fd, o.byte)),
+        Decoded::Unlisted => Executed::Stopped(unlisted(o.fd, o.byte)),
     }
 }
 
 // Timer reached moves to IR1.
-fn reached(cpu: Lh5801) -> Lh5801
+pub fn reached(cpu: Lh5801) -> Lh5801
     ensures { λ r. ⌜ r ≡ reachedOf cpu ⌝ }
 {
     if cpu.is_timer_reached {
@@ -178,46 +233,39 @@ fn answered(cpu: Lh5801) -> Lh5801
     }
 }
 
-// A step in which no instruction is executed, before its timer part.
-fn held(cpu: Lh5801, page0: &mut [u8], page1: &mut [u8], enabled: bool) -> Outcome
-    requires { ⌜ cpu .tm < 512 ⌝ }
-    ensures { λ r. ⌜ Changes (mapped outcomeOf (heldOf cpu enabled)) page0 page1 (timed r) × TimerFits r ⌝ }
+// A step with BF set and timer reached clear in which no instruction is due.
+fn held(cpu: Lh5801, page0: &mut [u8], page1: &mut [u8]) -> Outcome
+    requires { ⌜ (cpu .tm < 512) × (cpu .bf ≡ true) × (cpu .«is_timer_reached» ≡ false) × (dueOf cpu ≡ false) ⌝ }
+    ensures { λ r. ⌜ Waits cpu page0 page1 r ⌝ }
 {
     if cpu.ir0 {
-        return Outcome::Completed(cpu);
+        return Outcome::Completed(pages::timer_part(cpu));
     }
-    if (cpu.ir1 | cpu.ir2) & enabled {
+    if (cpu.ir1 | cpu.ir2) & arithmetic::get_flag(cpu.t, arithmetic::IE) {
         let at = vector_of(cpu);
         let next = pages::accept(answered(cpu), page0, page1, at);
-        return Outcome::Completed(next);
+        return Outcome::Completed(pages::timer_part(next));
     }
     Outcome::Stopped(Stop::Halted)
 }
 
-// A step with BF set, before its timer part: one test tells whether an instruction is due.
-fn powered(cpu: Lh5801, page0: &mut [u8], page1: &mut [u8], keyboard: u8) -> Outcome
-    requires { ⌜ cpu .tm < 512 ⌝ }
-    ensures { λ r. ⌜ Changes (mapped outcomeOf (poweredOf cpu keyboard)) page0 page1 (timed r) × TimerFits r ⌝ }
+// An instruction is due: BF set, IR0 clear, no interrupt accepted, not halted.
+pub fn due(cpu: Lh5801) -> bool
+    ensures { λ r. ⌜ r ≡ dueOf cpu ⌝ }
 {
     let enabled = arithmetic::get_flag(cpu.t, arithmetic::IE);
-    let interrupted = (cpu.ir1 | cpu.ir2) & enabled;
-    if cpu.ir0 | interrupted | cpu.is_halted {
-        held(cpu, page0, page1, enabled)
-    } else {
-        instruction(cpu, page0, page1, keyboard)
-    }
+    let requested = cpu.ir1 | cpu.is_timer_reached | cpu.ir2;
+    let waits = cpu.ir0 | (requested & enabled) | cpu.is_halted;
+    cpu.bf & !waits
 }
 
-// A completed step with BF set ends with the timer part.
-pub fn step_cpu(cpu: Lh5801, page0: &mut [u8], page1: &mut [u8], keyboard: u8) -> Outcome
-    requires { ⌜ cpu .tm < 512 ⌝ }
-    ensures { λ r. ⌜ Changes (mapped outcomeOf (stepOf cpu keyboard)) page0 page1 r ⌝ }
+// A step where no instruction is due.
+pub fn waits(cpu: Lh5801, page0: &mut [u8], page1: &mut [u8]) -> Outcome
+    requires { ⌜ (cpu .tm < 512) × (dueOf cpu ≡ false) ⌝ }
+    ensures { λ r. ⌜ Waits cpu page0 page1 r ⌝ }
 {
     if cpu.bf {
-        match powered(reached(cpu), page0, page1, keyboard) {
-            Outcome::Completed(next) => Outcome::Completed(pages::timer_part(next)),
-            Outcome::Stopped(stop) => Outcome::Stopped(stop),
-        }
+        held(reached(cpu), page0, page1)
     } else {
         Outcome::Completed(pages::add_state(cpu, 8))
     }

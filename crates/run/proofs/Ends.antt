@@ -1,15 +1,17 @@
 -- How the steps of a call end: what they reach, and whether the next step stops.
 use mathlib.Core.Path.{_≡_, refl, ap}
 use mathlib.Core.List.{List, [], _∷_, _++_, append-nil, append-assoc}
-use Prim.Native.Nat.{ℕ, zero, suc, _+_, _<_}
-use native.Mathlib.Nat.{zero-add, add-zero, add-assoc, not-suc-le-zero, le-of-suc-le-suc}
+use Prim.Native.Nat.{ℕ, zero, suc, _+_, _*_, _%_, _^_, _<_, _≤_}
+use native.Mathlib.Nat.{zero-add, add-zero, suc-add, add-assoc, not-suc-le-zero, le-of-suc-le-suc}
 use native.Mathlib.Omega.{arith}
 use Rattle.arithmetic.specs.declared.record.Lh5801.{Lh5801}
 use Rattle.pages.specs.Pages.{Pages}
 use Rattle.pages.specs.Prog.{Access, readOf, writeOf}
 use Rattle.pages.specs.Written.{Write, writes}
 use Rattle.execution.specs.declared.Stop.{Stop}
-use Rattle.execution.specs.Step.{Kind, did, stopped}
+use Rattle.execution.specs.Step.{Kind, did, stopped, stepOf}
+use Rattle.execution.proofs.StepKeeps.{step-small, step-ticks}
+use Rattle.execution.proofs.StepStates.{step-states}
 use Rattle.run.specs.declared.End.the-variants.{AllSteps, Step}
 use Rattle.run.specs.Run.{Outcome, outcome, noStep, completed, oneStep, runOf, accessesOf}
 use Rattle.run.specs.Reaches.{Reaches, start, next}
@@ -75,6 +77,48 @@ pub reaches-then : {key j : ℕ} {m k n : Lh5801} {p q : Pages} {t s : ℕ} {ws 
     → Reaches key (suc j) m p n (oneStep key k q .pages) (t + s) (ws ++ writes (oneStep key k q .accesses))
 reaches-then start x = rw zero-add (rw (add-zero, append-nil) at (next x start))
 reaches-then (next e r) x = rw (add-assoc, append-assoc) (next e (reaches-then r x))
+
+-- completed steps after completed steps
+pub reaches-all : {key i j : ℕ} {l m k : Lh5801} {o p q : Pages} {s t : ℕ} {vs ws : List Write}
+    → Reaches key i l o m p s vs
+    → Reaches key j m p k q t ws
+    → Reaches key (i + j) l o k q (s + t) (vs ++ ws)
+reaches-all start r = simp zero-add r
+reaches-all (next e f) r = rw (suc-add, add-assoc, append-assoc) (next e (reaches-all f r))
+
+-- no step leads nowhere
+pub reaches-none : {key j : ℕ} {m k : Lh5801} {p q : Pages} {t : ℕ} {ws : List Write}
+    → Reaches key j m p k q t ws
+    → j ≡ 0
+    → (k ≡ m) × (q ≡ p)
+reaches-none start h = (refl, refl)
+reaches-none (next e r) h = absurd (omega arith)
+
+-- from a record with the same step, one step and more lead to the same
+pub reaches-from : {key j : ℕ} {m l k : Lh5801} {p q : Pages} {t : ℕ} {ws : List Write}
+    → stepOf m key ≡ stepOf l key
+    → 0 < j
+    → Reaches key j m p k q t ws
+    → Reaches key j l p k q t ws
+reaches-from z h start = absurd (omega arith)
+reaches-from {l = l} {p = p} {q = q} z h (next {j = j} {n = n} {k = k} {s = s} {t = t} {kind = kind} {ws = ws} e r) =
+    rw z (next {j = j} {m = l} {n = n} {k = k} {p = p} {q = q} {s = s} {t = t} {kind = kind} {ws = ws} (rw (← z) e) (rw (← z) r))
+
+-- completed steps keep TM at most 511, and add their states, at most 23 each, to the ticks
+module _ {key : ℕ} where
+  pub reaches-small : {j : ℕ} {m k : Lh5801} {p q : Pages} {t : ℕ} {ws : List Write} → Reaches key j m p k q t ws → m .tm < 512 → k .tm < 512
+  reaches-small start h = h
+  reaches-small {m = m} {p = p} (next {n = n} {s = s} {kind = kind} e r) h = reaches-small r (step-small m key h p n s kind e)
+
+  pub reaches-ticks : {j : ℕ} {m k : Lh5801} {p q : Pages} {t : ℕ} {ws : List Write} → Reaches key j m p k q t ws → m .tm < 512
+      → k .ticks % 2 ^ 64 ≡ (m .ticks + t) % 2 ^ 64
+  reaches-ticks start h = omega arith
+  reaches-ticks {m = m} {p = p} (next {n = n} {s = s} {kind = kind} e r) h =
+      omega (arith, reaches-ticks r (step-small m key h p n s kind e), step-ticks m key h p n s kind e)
+
+  pub reaches-most : {j : ℕ} {m k : Lh5801} {p q : Pages} {t : ℕ} {ws : List Write} → Reaches key j m p k q t ws → t ≤ 23 * j
+  reaches-most start = omega arith
+  reaches-most {m = m} {p = p} (next {n = n} {s = s} {kind = kind} e r) = omega (arith, reaches-most r, step-states m key p n s kind e)
 
 -- the writes among a call's accesses are those of its completed steps, and after them those of the step that stops
 writes-append : (x y : List Access) → writes (x ++ y) ≡ writes x ++ writes y

@@ -1,6 +1,7 @@
 pub mod Entry
 pub mod Run
 pub mod Reaches
+pub mod Leads
 pub mod Demand
 pub mod Answers
 pub mod CampaignFile

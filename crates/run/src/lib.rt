@@ -1,11 +1,15 @@
 // The run call.
 ghost use mathlib.Core.Path.{_≡_};
+ghost use mathlib.Core.Bool.{true};
 ghost use Prim.Native.Nat.{_≤_, _<_};
 ghost use Rattle.pages.specs.Contract.{atEntry, atExit};
+ghost use Rattle.execution.specs.Due.{dueOf};
 ghost use Rattle.run.specs.Entry.{endNumber, endByte};
 ghost use Rattle.run.specs.Run.{runOf, callOf};
+ghost use Rattle.run.specs.Leads.{Leads};
 ghost use Rattle.run.specs.Answers.{Answers, answer, statesBetween};
 use arithmetic::record::Lh5801;
+use execution::Executed;
 use execution::Outcome;
 
 pub mod campaign_file;
@@ -61,6 +65,87 @@ fn answered(cpu: Lh5801, first: u64, steps: u32, end: End) -> Answer
     }
 }
 
+// What comes after completed steps: any step, or one that stops.
+pub enum Ahead {
+    Open,
+    Stops(execution::Stop),
+}
+
+// What steps led to: how many were completed, the record after them, and what comes next.
+pub struct Led {
+    pub steps: u32,
+    pub cpu: Lh5801,
+    pub ahead: Ahead,
+}
+
+// Instruction after instruction, for as long as nothing else can be due.
+fn instructions(cpu: Lh5801, page0: &mut [u8], page1: &mut [u8], keyboard: u8, most: u32) -> Led
+    requires { ⌜ (cpu .tm < 512) × (dueOf cpu ≡ true) × (0 < most) ⌝ }
+    ensures { λ r. ⌜ Leads keyboard most cpu (atEntry page0 page1) r (atExit page0 page1) ⌝ }
+{
+    let mut current = execution::reached(cpu);
+    let mut steps: u32 = 0;
+    while steps < most {
+        let executed = execution::instruction(current, page0, page1, keyboard);
+        match executed {
+            Executed::Again(next) => {
+                current = next;
+                steps = steps + 1;
+            }
+            Executed::Completed(next) => {
+                return Led {
+                    steps: steps + 1,
+                    cpu: next,
+                    ahead: Ahead::Open,
+                };
+            }
+            Executed::Stopped(stop) => {
+                // The step that stops is undone whole: timer reached has not moved.
+                if steps == 0 {
+                    return Led {
+                        steps: 0,
+                        cpu: cpu,
+                        ahead: Ahead::Stops(stop),
+                    };
+                }
+                return Led {
+                    steps: steps,
+                    cpu: current,
+                    ahead: Ahead::Stops(stop),
+                };
+            }
+        }
+    }
+    Led {
+        steps: steps,
+        cpu: current,
+        ahead: Ahead::Open,
+    }
+}
+
+// The next steps: instructions for as long as they are due, or one step of another kind.
+fn advance(cpu: Lh5801, page0: &mut [u8], page1: &mut [u8], keyboard: u8, most: u32) -> Led
+    requires { ⌜ (cpu .tm < 512) × (0 < most) ⌝ }
+    ensures { λ r. ⌜ Leads keyboard most cpu (atEntry page0 page1) r (atExit page0 page1) ⌝ }
+{
+    if execution::due(cpu) {
+        return instructions(cpu, page0, page1, keyboard, most);
+    }
+    let outcome = execution::waits(cpu, page0, page1);
+    match outcome {
+        Outcome::Completed(next) => Led {
+            steps: 1,
+            cpu: next,
+            ahead: Ahead::Open,
+        },
+        Outcome::Stopped(stop) => Led {
+            steps: 0,
+            cpu: cpu,
+            ahead: Ahead::Stops(stop),
+        },
+    }
+}
+
 // Steps up to the limit, or to the first that stops.
 fn steps_of(cpu: Lh5801, page0: &mut [u8], page1: &mut [u8], keyboard: u8, limit: u32) -> Answer
     requires { ⌜ (cpu .tm < 512) × (limit ≤ 1000000) ⌝ }
@@ -70,13 +155,13 @@ fn steps_of(cpu: Lh5801, page0: &mut [u8], page1: &mut [u8], keyboard: u8, limit
     let mut current = cpu;
     let mut steps: u32 = 0;
     while steps < limit {
-        let outcome = execution::step_cpu(current, page0, page1, keyboard);
-        match outcome {
-            Outcome::Completed(next) => {
-                current = next;
-                steps = steps + 1;
-            }
-            Outcome::Stopped(stop) => {
+        let led = advance(current, page0, page1, keyboard, limit - steps);
+        current = led.cpu;
+        steps = steps + led.steps;
+        let ahead = led.ahead;
+        match ahead {
+            Ahead::Open => {}
+            Ahead::Stops(stop) => {
                 return answered(current, first, steps, End::Step(stop));
             }
         }

@@ -1,23 +1,25 @@
-use Rattle.execution.proofs.Order.{answered-tm, held-frozen, held-entered, held-halted}
+use Rattle.execution.proofs.Order.{answered-tm, step-frozen, step-entered, step-halted}
 use Rattle.execution.proofs.Counters.{entered-small}
 use borrow.Author.Needs.{needs}
 use Rattle.execution.proofs.held.Statement.{statement}
 use Rattle.execution.proofs.held.Tie as tie
 
+timer-part-requires : tie.Need-timer-part-requires
+timer-part-requires c κs = c .before .before .before .pre .0
+
 returns : tie.Need-returns
-returns c = (held-frozen (c .before .before .before .args .cpu) (c .before .before .before .args .enabled) (c .if1 .taken), c .before .before .before .pre)
+returns c = λ key. step-frozen (c .before .before .before .before .args .cpu) key (c .before .before .before .before .pre .1) (c .before .before .before .before .pre .2) (c .before .if1 .taken) (c .timer-part .ensures)
+
+timer-part-requires-2 : tie.Need-timer-part-requires-2
+timer-part-requires-2 c κs = entered-small _ _ (rw (c .before .before .before .before .before .before .before .answered .ensures, answered-tm (c .before .before .before .before .before .before .before .before .before .before .before .before .before .before .before .args .cpu)) (c .before .before .before .before .before .before .before .before .before .before .before .before .before .before .before .pre .0)) (c .before .before .before .before .accept .ensures)
 
 returns-2 : tie.Need-returns-2
-returns-2 c = (
-  held-entered (c .before .before .before .before .before .before .before .before .before .before .before .before .before .before .args .cpu) (c .before .before .before .before .before .before .before .before .before .before .before .before .before .before .args .enabled) (c .before .before .before .before .before .before .before .before .before .before .before .if1 .left) (c .before .before .before .before .before .before .before .before .before .if2 .taken) (c .before .before .before .before .before .before .before .answered .ensures) (c .before .before .before .before .before .before .before .before .vector-of .ensures) (c .before .before .before .before .accept .ensures),
-  entered-small _ _ (rw (c .before .before .before .before .before .before .before .answered .ensures, answered-tm (c .before .before .before .before .before .before .before .before .before .before .before .before .before .before .args .cpu)) (c .before .before .before .before .before .before .before .before .before .before .before .before .before .before .pre)) (c .before .before .before .before .accept .ensures),
-)
+returns-2 c = λ key. step-entered (c .before .before .before .before .before .before .before .before .before .before .before .before .before .before .before .before .args .cpu) key (c .before .before .before .before .before .before .before .before .before .before .before .before .before .before .before .before .pre .1) (c .before .before .before .before .before .before .before .before .before .before .before .before .before .before .before .before .pre .2) (c .before .before .before .before .before .before .before .before .before .before .before .get-flag .result) (c .before .before .before .before .before .before .before .before .before .before .before .get-flag .ensures) (c .before .before .before .before .before .before .before .before .before .before .before .before .before .if1 .left) (c .before .before .before .before .before .before .before .before .before .before .if2 .taken) (c .before .before .before .before .before .before .before .before .answered .ensures) (c .before .before .before .before .before .before .before .before .before .vector-of .ensures) (c .before .before .before .before .before .accept .ensures) (c .timer-part2 .ensures)
 
 returns-3 : tie.Need-returns-3
-returns-3 c = (held-halted (c .before .before .before .before .before .args .cpu) (c .before .before .before .before .before .args .enabled) (c .before .before .if1 .left) (c .if2 .left), tt)
+returns-3 c = λ key. step-halted (c .before .before .before .before .before .before .args .cpu) key (c .before .before .before .before .before .before .pre .1) (c .before .before .before .before .before .before .pre .2) (c .before .get-flag .result) (c .before .get-flag .ensures) (c .before .before .before .if1 .left) (c .if2 .left) (c .before .before .before .before .before .before .pre .3)
 
 pub held-spec : {M : Type 1} → statement M
 held-spec =
     tie.close
-    (tie.spec returns (λ c κs. search needs) (λ c κs. search needs) (λ c κs. search needs) (λ c. search needs) (λ c. search needs) returns-2
-    returns-3)
+    (tie.spec timer-part-requires returns (λ c κs. search needs) (λ c κs. search needs) (λ c κs. search needs) (λ c κs. search needs) timer-part-requires-2 (λ c. search needs) (λ c. search needs) returns-2 returns-3)

@@ -1,0 +1,58 @@
+-- The test for an instruction is document 01's condition.
+use mathlib.Core.Path.{_≡_, refl}
+use mathlib.Core.Bool.{Bool, true, false, not, _&&_, _||_, true≢false, false≢true}
+use mathlib.Core.Logic.{_↔_}
+use Rattle.arithmetic.specs.declared.record.Lh5801.{Lh5801}
+use Rattle.arithmetic.specs.Flags.{IE, hasFlag}
+use Rattle.execution.specs.Conditions.{Due}
+use Rattle.execution.specs.Due.{dueBy, dueOf}
+
+-- the four parts of `Due`
+abbrev Parts : Bool → Bool → Bool → Bool → Bool → Bool → Bool → Type 0
+Parts bf ir0 ir1 r ir2 e h = (bf ≡ true) × (ir0 ≡ false) × (bf && not ir0 && e && (ir1 || r || ir2) ≡ false) × (h ≡ false)
+
+tested : (bf ir0 ir1 r ir2 e h : Bool) → dueBy bf ir0 ir1 r ir2 e h ≡ true → Parts bf ir0 ir1 r ir2 e h
+tested false ir0 ir1 r ir2 e h t = absurd (false≢true t)
+tested true true ir1 r ir2 e h t = absurd (false≢true t)
+tested true false true r ir2 true h t = absurd (false≢true t)
+tested true false true r ir2 false true t = absurd (false≢true t)
+tested true false true r ir2 false false t = (refl, refl, refl, refl)
+tested true false false true ir2 true h t = absurd (false≢true t)
+tested true false false true ir2 false true t = absurd (false≢true t)
+tested true false false true ir2 false false t = (refl, refl, refl, refl)
+tested true false false false true true h t = absurd (false≢true t)
+tested true false false false true false true t = absurd (false≢true t)
+tested true false false false true false false t = (refl, refl, refl, refl)
+tested true false false false false e true t = absurd (false≢true t)
+tested true false false false false true false t = (refl, refl, refl, refl)
+tested true false false false false false false t = (refl, refl, refl, refl)
+
+told : (bf ir0 ir1 r ir2 e h : Bool) → bf ≡ true → ir0 ≡ false → bf && not ir0 && e && (ir1 || r || ir2) ≡ false → h ≡ false
+    → dueBy bf ir0 ir1 r ir2 e h ≡ true
+told false ir0 ir1 r ir2 e h b z n g = absurd (false≢true b)
+told true true ir1 r ir2 e h b z n g = absurd (true≢false z)
+told true false ir1 r ir2 e true b z n g = absurd (true≢false g)
+told true false true r ir2 true false b z n g = absurd (true≢false n)
+told true false true r ir2 false false b z n g = refl
+told true false false true ir2 true false b z n g = absurd (true≢false n)
+told true false false true ir2 false false b z n g = refl
+told true false false false true true false b z n g = absurd (true≢false n)
+told true false false false true false false b z n g = refl
+told true false false false false e false b z n g = refl
+
+module _ (m : Lh5801) where
+  due-holds : dueOf m ≡ true → Due m
+  due-holds t =
+      let p = tested (m .bf) (m .ir0) (m .ir1) (m .«is_timer_reached») (m .ir2) (hasFlag (m .t) IE) (m .«is_halted») t in
+      record { on = p .0; free = p .1; none = p .2; running = p .3 }
+
+  -- the test passes exactly where an instruction is due
+  pub due-is : (dueOf m ≡ true) ↔ Due m
+  due-is = (
+    due-holds,
+    λ d. told (m .bf) (m .ir0) (m .ir1) (m .«is_timer_reached») (m .ir2) (hasFlag (m .t) IE) (m .«is_halted») (d .on) (d .free) (d .none) (d .running),
+  )
+
+  -- and then BF is set
+  pub due-on : dueOf m ≡ true → m .bf ≡ true
+  due-on t = due-holds t .on

@@ -1,0 +1,22 @@
+use mathlib.Core.Path.{sym, _∙_}
+use borrow.Author.Needs.{needs}
+use Rattle.run.proofs.Loop.{one-did, one-stops}
+use Rattle.run.proofs.advance.Statement.{statement}
+use Rattle.run.proofs.advance.Tie as tie
+
+instructions-requires : tie.Need-instructions-requires
+instructions-requires c κs = (c .before .before .before .before .before .before .pre .0, sym (c .before .before .before .due .ensures) ∙ c .before .before .if1 .taken, c .before .before .before .before .before .before .pre .1)
+
+waits-requires : tie.Need-waits-requires
+waits-requires c κs = (c .before .before .before .before .before .before .pre .0, sym (c .before .before .before .due .ensures) ∙ c .before .before .if1 .left)
+
+returns-2 : tie.Need-returns-2
+returns-2 c = one-did (c .before .before .before .before .before .before .before .before .before .before .before .before .before .before .pre .1) (c .before .before .before .before .before .before .before .before .before .before .before .before .before .before .pre .0) (rw (c .before .outcome .given .1) at (c .before .before .before .before .before .before .before .waits .ensures (c .before .before .before .before .before .before .before .before .before .before .before .before .before .before .args .keyboard)))
+
+returns-3 : tie.Need-returns-3
+returns-3 c = one-stops (c .before .before .before .before .before .before .before .before .before .before .before .before .before .before .pre .1) (rw (c .before .outcome2 .given .1) at (c .before .before .before .before .before .before .before .waits .ensures (c .before .before .before .before .before .before .before .before .before .before .before .before .before .before .args .keyboard)))
+
+pub advance-spec : {M : Type 1} → statement M
+advance-spec =
+    tie.close
+    (tie.spec (λ c κs. search needs) instructions-requires (λ c. search needs) (λ c. search needs) (λ c. search needs) waits-requires (λ c. search needs) (λ c. search needs) (λ c. search needs) (λ c. search needs) returns-2 (λ c. search needs) (λ c. search needs) returns-3)

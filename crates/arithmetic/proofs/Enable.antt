@@ -18,27 +18,28 @@ use Rattle.arithmetic.proofs.Flags.{flags-are, add-flags}
 abbrev pub Enabled : ℕ → ℕ → Type 0
 Enabled new old = hasFlag new IE ≡ hasFlag old IE
 
-all-z : T (every (λ t. either (λ v. same (hasFlag (setFlag t ZF v) IE) (hasFlag t IE))) 0 256)
-all-z = tt
-
-all-c : T (every (λ t. either (λ v. same (hasFlag (setFlag t CF v) IE) (hasFlag t IE))) 0 256)
-all-c = tt
+-- of every T, with either value of a flag
+kept : ℕ → Bool
+kept mask = every (λ t. either (λ v. same (hasFlag (setFlag t mask v) IE) (hasFlag t IE))) 0 256
 
 all-tta : T (every (λ t. same (hasFlag (checkZ (checkZ t t) (checkZ t t)) IE) (hasFlag t IE)) 0 256)
 all-tta = tt
 
 module _ (t : ℕ) (small : t < 256) where
-  pub z-enable : (v : Bool) → Enabled (setFlag t ZF v) t
-  z-enable v =
+  flag-enable : (mask : ℕ) → T (kept mask) → (v : Bool) → Enabled (setFlag t mask v) t
+  unfolding kept
+  flag-enable mask all v =
       same-eq _ _
-      (at-bool (λ v. same (hasFlag (setFlag t ZF v) IE) (hasFlag t IE))
-      (at (λ t. either (λ v. same (hasFlag (setFlag t ZF v) IE) (hasFlag t IE))) 256 all-z t small) v)
+      (at-bool (λ v. same (hasFlag (setFlag t mask v) IE) (hasFlag t IE))
+      (at (λ t. either (λ v. same (hasFlag (setFlag t mask v) IE) (hasFlag t IE))) 256 all t small) v)
+
+  pub z-enable : (v : Bool) → Enabled (setFlag t ZF v) t
+  unfolding kept
+  z-enable = flag-enable ZF tt
 
   pub c-enable : (v : Bool) → Enabled (setFlag t CF v) t
-  c-enable v =
-      same-eq _ _
-      (at-bool (λ v. same (hasFlag (setFlag t CF v) IE) (hasFlag t IE))
-      (at (λ t. either (λ v. same (hasFlag (setFlag t CF v) IE) (hasFlag t IE))) 256 all-c t small) v)
+  unfolding kept
+  c-enable = flag-enable CF tt
 
   pub flags-enable : (c z v h : Bool) → Enabled (withFlags t c z v h) t
   flags-enable c z v h = flags-are t small c z v h .enable

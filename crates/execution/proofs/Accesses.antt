@@ -6,6 +6,7 @@ use native.Mathlib.Omega.{arith}
 use lib.Dec.{eqb}
 use lib.ListN.{length}
 use Rattle.arithmetic.specs.declared.record.Lh5801.{Lh5801}
+use Rattle.execution.specs.declared.Inputs.{Inputs}
 use Rattle.arithmetic.specs.Record.{with-p, with-ir1, with-ir2}
 use Rattle.pages.specs.Pages.{Pages, at, store}
 use Rattle.pages.specs.Prog.{Prog, done, get, put, _>>=_, read, write, after, exec}
@@ -62,14 +63,14 @@ module _ (m : Lh5801) where
   within-located : (place : Place) → Within 2 (locateOf m place)
   unfolding locateOf readopWordOf readopOf read _>>=_
   within-located (HalfAt h) = tt
-  within-located (Pointer r page) = tt
+  within-located (Pointer page r) = tt
   within-located (Fixed page) = λ high low. tt
   within-located InCode = tt
 
   within-operand : (place : Place) → Within 3 (operandOf m place)
   unfolding operandOf readopWordOf readopOf read _>>=_
   within-operand (HalfAt h) = tt
-  within-operand (Pointer r page) = λ b. tt
+  within-operand (Pointer page r) = λ b. tt
   within-operand (Fixed page) = λ high low b. tt
   within-operand InCode = λ b. tt
 
@@ -80,83 +81,83 @@ module _ (m : Lh5801) where
   within-sta : (place : Place) → Within 5 (staOf m place)
   unfolding staOf
   within-sta (HalfAt h) = tt
-  within-sta (Pointer r page) = within-more 3 5 (storeOf m (Pointer r page)) (omega arith) (within-store (Pointer r page))
+  within-sta (Pointer page r) = within-more 3 5 (storeOf m (Pointer page r)) (omega arith) (within-store (Pointer page r))
   within-sta (Fixed page) = within-more 3 5 (storeOf m (Fixed page)) (omega arith) (within-store (Fixed page))
-  within-sta InCode = tt
+  within-sta InCode = within-more 3 5 (storeOf m InCode) (omega arith) (within-store InCode)
 
 within-vector : (m : Lh5801) (nr : ℕ) → Within 4 (vectorOf m nr)
 unfolding vectorOf pushWordOf pushOf mem16Of read write _>>=_
 within-vector m nr = λ high low. tt
 
 -- two of them for the operand's address, one for the immediate and two for memory; or one for the operand and four for a vector
-within-executed : (m : Lh5801) (key : ℕ) (i : Instruction) → Within 5 (executeOf m key i)
+within-executed : (m : Lh5801) (inputs : Inputs) (i : Instruction) → Within 5 (executeOf m inputs i)
 unfolding executeOf aluOf memoryOf biiOf drrOf drlOf loadOf compareOf storeAtOf loadAtOf sinOf sdeOf linOf ldeOf branchOf lopOf vectorOf vectorIfOf jmpOf sjpOf rtnOf rtiOf loadSOf tinOf cinOf popToOf pushFromOf readopOf readopWordOf mem16Of pushOf pushWordOf popOf popWordOf read write _>>=_
-within-executed m key (Alu o place) = within-then 3 2 (operandOf m place) _ (within-operand m place) (λ f. tt)
-within-executed m key (Sta place) = within-sta m place
-within-executed m key (Memory o place) = within-then 2 3 (locateOf m place) _ (within-located m place) (λ l i b. tt)
-within-executed m key (Bii place) = within-then 2 3 (locateOf m place) _ (within-located m place) (λ l b i. tt)
-within-executed m key (Drr place) = within-then 2 3 (locateOf m place) _ (within-located m place) (λ l b. tt)
-within-executed m key (Drl place) = within-then 2 3 (locateOf m place) _ (within-located m place) (λ l b. tt)
-within-executed m key (Load h place) = within-then 3 2 (operandOf m place) _ (within-operand m place) (λ f. tt)
-within-executed m key (Compare h place) = within-then 3 2 (operandOf m place) _ (within-operand m place) (λ f. tt)
-within-executed m key (Inc h) = tt
-within-executed m key (Dec h) = tt
-within-executed m key (IncWord r) = tt
-within-executed m key (DecWord r) = tt
-within-executed m key (Sin r) = tt
-within-executed m key (Sde r) = tt
-within-executed m key (Lin r) = λ b. tt
-within-executed m key (Lde r) = λ b. tt
-within-executed m key (Branch c forward) = λ b. tt
-within-executed m key Lop = λ b. tt
-within-executed m key (VectorIf c) = λ b. cond-both (Within 4) (holdsOf (m .t) c) _ _ (within-vector (with-p m (up16 (m .p))) b) tt
-within-executed m key (Vector nr) = within-more 4 5 (vectorOf m nr) (omega arith) (within-vector m nr)
-within-executed m key Jmp = λ high low. tt
-within-executed m key Sjp = λ high low. tt
-within-executed m key Rtn = λ high low. tt
-within-executed m key Rti = λ high low t. tt
-within-executed m key LoadS = λ high low. tt
-within-executed m key Tin = λ b. tt
-within-executed m key Cin = λ b. tt
-within-executed m key (OnA o) = tt
-within-executed m key (Sets s v) = tt
-within-executed m key (PopWord r) = λ high low. tt
-within-executed m key (PushWord r) = tt
-within-executed m key PopA = λ b. tt
-within-executed m key PushA = tt
-within-executed m key (ToX w) = tt
-within-executed m key (FromX w) = tt
-within-executed m key DropWord = tt
-within-executed m key (Adr r) = tt
-within-executed m key Off = tt
-within-executed m key Hlt = tt
-within-executed m key Cdv = tt
-within-executed m key Nop = tt
+within-executed m inputs (Alu o place) = within-then 3 2 (operandOf m place) _ (within-operand m place) (λ f. tt)
+within-executed m inputs (Sta place) = within-sta m place
+within-executed m inputs (Memory o place) = within-then 2 3 (locateOf m place) _ (within-located m place) (λ l i b. tt)
+within-executed m inputs (Bii place) = within-then 2 3 (locateOf m place) _ (within-located m place) (λ l b i. tt)
+within-executed m inputs (Drr page) = λ b. tt
+within-executed m inputs (Drl page) = λ b. tt
+within-executed m inputs (Load h) = λ b. tt
+within-executed m inputs (Compare h) = λ b. tt
+within-executed m inputs (Inc h) = tt
+within-executed m inputs (Dec h) = tt
+within-executed m inputs (IncWord r) = tt
+within-executed m inputs (DecWord r) = tt
+within-executed m inputs (Sin r) = tt
+within-executed m inputs (Sde r) = tt
+within-executed m inputs (Lin r) = λ b. tt
+within-executed m inputs (Lde r) = λ b. tt
+within-executed m inputs (Branch forward c) = λ b. tt
+within-executed m inputs Lop = λ b. tt
+within-executed m inputs (VectorIf c) = λ b. cond-both (Within 4) (holdsOf (m .t) c) _ _ (within-vector (with-p m (up16 (m .p))) b) tt
+within-executed m inputs (Vector nr) = within-more 4 5 (vectorOf m nr) (omega arith) (within-vector m nr)
+within-executed m inputs Jmp = λ high low. tt
+within-executed m inputs Sjp = λ high low. tt
+within-executed m inputs Rtn = λ high low. tt
+within-executed m inputs Rti = λ high low t. tt
+within-executed m inputs LoadS = λ high low. tt
+within-executed m inputs Tin = λ b. tt
+within-executed m inputs Cin = λ b. tt
+within-executed m inputs (OnA o) = tt
+within-executed m inputs (Sets s v) = tt
+within-executed m inputs (PopWord r) = λ high low. tt
+within-executed m inputs (PushWord r) = tt
+within-executed m inputs PopA = λ b. tt
+within-executed m inputs PushA = tt
+within-executed m inputs (ToX w) = tt
+within-executed m inputs (FromX w) = tt
+within-executed m inputs DropWord = tt
+within-executed m inputs (Adr r) = tt
+within-executed m inputs Off = tt
+within-executed m inputs Hlt = tt
+within-executed m inputs Cdv = tt
+within-executed m inputs Nop = tt
 
 within-fetch : (p : ℕ) → Within 2 (fetchOf p)
 unfolding fetchOf readopOf read _>>=_
 within-fetch p = λ b. cond-both (Within {A = Fetched} 1) (eqb b 0xFD) _ _ (λ c. tt) tt
 
-within-obeyed : (m : Lh5801) (key : ℕ) (o : Fetched) (d : Decoded) → Within 5 (obeyOf m key o d)
+within-obeyed : (m : Lh5801) (inputs : Inputs) (o : Fetched) (d : Decoded) → Within 5 (obeyOf m inputs o d)
 unfolding obeyOf
-within-obeyed m key o (Listed i n) = within-then 5 0 (executeOf (with-p m (o .p)) key i) _ (within-executed (with-p m (o .p)) key i) (λ k. tt)
-within-obeyed m key o Unlisted = tt
+within-obeyed m inputs o (Listed i n) = within-then 5 0 (executeOf (with-p m (o .p)) inputs i) _ (within-executed (with-p m (o .p)) inputs i) (λ k. tt)
+within-obeyed m inputs o Unlisted = tt
 
-within-instruction : (m : Lh5801) (key : ℕ) → Within 7 (instructionOf m key)
+within-instruction : (m : Lh5801) (inputs : Inputs) → Within 7 (instructionOf m inputs)
 unfolding instructionOf
-within-instruction m key = within-then 2 5 (fetchOf (m .p)) _ (within-fetch (m .p)) (λ o. within-obeyed m key o (decodedBy (o .fd) (o .byte)))
+within-instruction m inputs = within-then 2 5 (fetchOf (m .p)) _ (within-fetch (m .p)) (λ o. within-obeyed m inputs o (decodedBy (o .fd) (o .byte)))
 
 -- three writes and two reads
 within-entered : (m : Lh5801) (vector : ℕ) → Within 7 (enteredOf m vector)
 unfolding enteredOf entryOf pushStateOf pushWordOf pushOf mem16Of read write _>>=_
 within-entered m vector = λ high low. tt
 
-within-powered : (m : Lh5801) (key : ℕ) → Within 7 (poweredOf m key)
-within-powered m key =
-    powered-ways (Within 7) m key tt (within-entered (with-ir1 m false) 0xFFFA) (within-entered (with-ir2 m false) 0xFFF8) tt
-    (within-instruction m key)
+within-powered : (m : Lh5801) (inputs : Inputs) → Within 7 (poweredOf m inputs)
+within-powered m inputs =
+    powered-ways (Within 7) m inputs tt (within-entered (with-ir1 m false) 0xFFFA) (within-entered (with-ir2 m false) 0xFFF8) tt
+    (within-instruction m inputs)
 
 -- a step makes at most seven accesses
-pub step-accesses : (m : Lh5801) (key : ℕ) (pages : Pages) → length (exec (stepOf m key) pages .accesses) ≤ 7
-step-accesses m key pages =
-    within-exec 7 (stepOf m key) (step-ways (Within 7) m key tt (within-powered (moved m) key) (within-powered m key)) pages
+pub step-accesses : (m : Lh5801) (inputs : Inputs) (pages : Pages) → length (exec (stepOf m inputs) pages .accesses) ≤ 7
+step-accesses m inputs pages =
+    within-exec 7 (stepOf m inputs) (step-ways (Within 7) m inputs tt (within-powered (moved m) inputs) (within-powered m inputs)) pages

@@ -5,6 +5,7 @@ use Prim.Native.Nat.{ℕ, _+_, _-_, _%_, _^_, _<_}
 use native.Mathlib.Omega.{arith}
 use lib.Dec.{eqb}
 use Rattle.arithmetic.specs.declared.record.Lh5801.{Lh5801}
+use Rattle.execution.specs.declared.Inputs.{Inputs}
 use Rattle.arithmetic.specs.Record.{with-a, with-t, with-x, with-y, with-u, with-s, with-p, with-is-halted, with-pu, with-pv, with-bf, with-disp, with-tm, with-step-previous-state, with-timer-state, with-ticks}
 use Rattle.arithmetic.specs.Sums.{adcOf, sbcOf, cpaOf}
 use Rattle.arithmetic.specs.Decimal.{dcaOf, dcsOf}
@@ -110,7 +111,7 @@ module _ (m : Lh5801) (small : m .tm < 512) where
   told-branched k s p offset c true = told-added (with-p k ((p + offset) % 0x10000)) 2 s
   told-branched k s p offset c false = told-added (with-p k ((p + (0x10000 - offset)) % 0x10000)) 3 s
 
-  told-branch : (c : Condition) (forward : Bool) → Always (Told m (addedOf m (Branch c forward))) (branchOf m c forward)
+  told-branch : (c : Condition) (forward : Bool) → Always (Told m (addedOf m (Branch forward c))) (branchOf m c forward)
   unfolding branchOf readopOf _>>=_ read with-p
   told-branch c forward b = go (holdsOf (m .t) c)
     where
@@ -158,59 +159,59 @@ module _ (m : Lh5801) (small : m .tm < 512) where
   told-sta : (place : Place) → Always (Told m 0) (staOf m place)
   unfolding staOf storeOf locateOf readopWordOf readopOf _>>=_ read write with-p
   told-sta (HalfAt h) = told-same (same-half m h (m .a))
-  told-sta (Pointer r page) = told-kept
+  told-sta (Pointer page r) = told-kept
   told-sta (Fixed page) = λ high low. told-kept
   told-sta InCode = told-kept
 
   -- an instruction, by its kind
-  pub told : (key : ℕ) (i : Instruction) → Always (Told m (addedOf m i)) (executeOf m key i)
+  pub told : (inputs : Inputs) (i : Instruction) → Always (Told m (addedOf m i)) (executeOf m inputs i)
   unfolding executeOf aluOf memoryOf biiOf drrOf drlOf loadOf compareOf incHalfOf decHalfOf incWordOf decWordOf storeAtOf loadAtOf sinOf sdeOf linOf ldeOf jmpOf sjpOf rtnOf rtiOf loadSOf tinOf cinOf popToOf pushFromOf adrInOf cdvOf dropWordOf readopOf readopWordOf mem16Of pushOf pushWordOf popOf popWordOf _>>=_ read write with-a with-t with-x with-y with-s with-p with-bf with-is-halted with-step-previous-state ldaOf cpaOf bitTestOf
-  told key (Alu o place) = always-then _ (operandOf m place) _ (λ f. told-same (same-operated (with-p m (f .p)) o (f .value)))
-  told key (Sta place) = told-sta place
-  told key (Memory o place) = always-then _ (locateOf m place) _ (λ l i b. told-kept)
-  told key (Bii place) = always-then _ (locateOf m place) _ (λ l b i. told-kept)
-  told key (Drr place) = always-then _ (locateOf m place) _ (λ l b. told-kept)
-  told key (Drl place) = always-then _ (locateOf m place) _ (λ l b. told-kept)
-  told key (Load half place) = always-then _ (operandOf m place) _ (λ f. told-same (same-half (with-p m (f .p)) half (f .value)))
-  told key (Compare half place) = always-then _ (operandOf m place) _ (λ f. told-kept)
-  told key (Inc half) = told-same (same-half (with-t m _) half _)
-  told key (Dec half) = told-same (same-half (with-t m _) half _)
-  told key (IncWord r) = told-same (same-word m r _)
-  told key (DecWord r) = told-same (same-word m r _)
-  told key (Sin r) = told-same (same-word m r _)
-  told key (Sde r) = told-same (same-word m r _)
-  told key (Lin r) = λ b. told-same (same-word (ldaOf m b) r _)
-  told key (Lde r) = λ b. told-same (same-word (ldaOf m b) r _)
-  told key (Branch c forward) = told-branch c forward
-  told key Lop = told-lop
-  told key (VectorIf c) = told-vector-if c
-  told key (Vector nr) = told-vector m nr (refl, refl)
-  told key Jmp = λ high low. told-kept
-  told key Sjp = λ high low. told-kept
-  told key Rtn = λ high low. told-kept
-  told key Rti = λ high low t. told-kept
-  told key LoadS = λ high low. told-kept
-  told key Tin = λ b. told-kept
-  told key Cin = λ b. told-kept
-  told key (OnA o) = told-on-a o key
-  told key (Sets s v) = told-same (same-signal m s v)
-  told key (PopWord r) = λ high low. told-same (same-word (with-s m _) r _)
-  told key (PushWord r) = told-kept
-  told key PopA = λ b. told-kept
-  told key PushA = told-kept
-  told key (ToX w) = told-same (same-to-x m w)
-  told key (FromX w) = told-same (same-from-x m w)
-  told key DropWord = told-kept
-  told key (Adr r) = told-same (same-word (with-t m _) r _)
-  told key Off = told-kept
-  told key Hlt = told-kept
-  told key Cdv = told-kept
-  told key Nop = told-kept
+  told inputs (Alu o place) = always-then _ (operandOf m place) _ (λ f. told-same (same-operated (with-p m (f .p)) o (f .value)))
+  told inputs (Sta place) = told-sta place
+  told inputs (Memory o place) = always-then _ (locateOf m place) _ (λ l i b. told-kept)
+  told inputs (Bii place) = always-then _ (locateOf m place) _ (λ l b i. told-kept)
+  told inputs (Drr page) = λ b. told-kept
+  told inputs (Drl page) = λ b. told-kept
+  told inputs (Load half) = λ b. told-same (same-half (with-p m (up16 (m .p))) half b)
+  told inputs (Compare half) = λ b. told-kept
+  told inputs (Inc half) = told-same (same-half (with-t m _) half _)
+  told inputs (Dec half) = told-same (same-half (with-t m _) half _)
+  told inputs (IncWord r) = told-same (same-word m r _)
+  told inputs (DecWord r) = told-same (same-word m r _)
+  told inputs (Sin r) = told-same (same-word m r _)
+  told inputs (Sde r) = told-same (same-word m r _)
+  told inputs (Lin r) = λ b. told-same (same-word (ldaOf m b) r _)
+  told inputs (Lde r) = λ b. told-same (same-word (ldaOf m b) r _)
+  told inputs (Branch forward c) = told-branch c forward
+  told inputs Lop = told-lop
+  told inputs (VectorIf c) = told-vector-if c
+  told inputs (Vector nr) = told-vector m nr (refl, refl)
+  told inputs Jmp = λ high low. told-kept
+  told inputs Sjp = λ high low. told-kept
+  told inputs Rtn = λ high low. told-kept
+  told inputs Rti = λ high low t. told-kept
+  told inputs LoadS = λ high low. told-kept
+  told inputs Tin = λ b. told-kept
+  told inputs Cin = λ b. told-kept
+  told inputs (OnA o) = told-on-a o (inputs .keyboard)
+  told inputs (Sets s v) = told-same (same-signal m s v)
+  told inputs (PopWord r) = λ high low. told-same (same-word (with-s m _) r _)
+  told inputs (PushWord r) = told-kept
+  told inputs PopA = λ b. told-kept
+  told inputs PushA = told-kept
+  told inputs (ToX w) = told-same (same-to-x m w)
+  told inputs (FromX w) = told-same (same-from-x m w)
+  told inputs DropWord = told-kept
+  told inputs (Adr r) = told-same (same-word (with-t m _) r _)
+  told inputs Off = told-kept
+  told inputs Hlt = told-kept
+  told inputs Cdv = told-kept
+  told inputs Nop = told-kept
 
 -- an instruction keeps TM at most 511, and adds its states to the ticks
-pub execute-counted : (m : Lh5801) (key : ℕ) (i : Instruction) → m .tm < 512 → Always (Counted m (addedOf m i)) (executeOf m key i)
-execute-counted m key i small =
-    always-so (Told m (addedOf m i)) _ (executeOf m key i) (told m small key i) (λ k t. record { small = t .0; ticks = t .1 })
+pub execute-counted : (m : Lh5801) (inputs : Inputs) (i : Instruction) → m .tm < 512 → Always (Counted m (addedOf m i)) (executeOf m inputs i)
+execute-counted m inputs i small =
+    always-so (Told m (addedOf m i)) _ (executeOf m inputs i) (told m small inputs i) (λ k t. record { small = t .0; ticks = t .1 })
 
 -- an interrupt's entry keeps TM and the ticks
 pub entry-kept : (m : Lh5801) (vector : ℕ) → Always (λ k. (k .tm ≡ m .tm) × (k .ticks ≡ m .ticks)) (entryOf m vector)
@@ -218,8 +219,8 @@ unfolding entryOf pushStateOf pushWordOf pushOf mem16Of _>>=_ read write with-s 
 entry-kept m vector = λ high low. (refl, refl)
 
 -- what code knows of TM after either
-pub executed-small : (m : Lh5801) (key : ℕ) (i : Instruction) {p q : Pages} {k : Lh5801} → m .tm < 512 → Does (executeOf m key i) p k q → k .tm < 512
-executed-small m key i {p} small d = rw (d .value) (always-exec (Counted m (addedOf m i)) (executeOf m key i) (execute-counted m key i small) p .small)
+pub executed-small : (m : Lh5801) (inputs : Inputs) (i : Instruction) {p q : Pages} {k : Lh5801} → m .tm < 512 → Does (executeOf m inputs i) p k q → k .tm < 512
+executed-small m inputs i {p} small d = rw (d .value) (always-exec (Counted m (addedOf m i)) (executeOf m inputs i) (execute-counted m inputs i small) p .small)
 
 pub entered-small : (m : Lh5801) (vector : ℕ) {p q : Pages} {k : Lh5801} → m .tm < 512 → Does (entryOf m vector) p k q → k .tm < 512
 entered-small m vector {p} small d = rw (d .value, always-exec (λ k. (k .tm ≡ m .tm) × (k .ticks ≡ m .ticks)) (entryOf m vector) (entry-kept m vector) p .0) small

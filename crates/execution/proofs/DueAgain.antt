@@ -5,6 +5,7 @@ use Prim.Native.Nat.{ℕ, _<_}
 use lib.Dec.{leb}
 use lib.Bits.{bitAnd, bitOr}
 use Rattle.arithmetic.specs.declared.record.Lh5801.{Lh5801}
+use Rattle.execution.specs.declared.Inputs.{Inputs}
 use Rattle.arithmetic.specs.Record.{with-a, with-t, with-x, with-y, with-u, with-s, with-p, with-pu, with-pv, with-disp, with-tm, with-is-timer-reached, with-step-previous-state, with-timer-state, with-ticks}
 use Rattle.arithmetic.specs.Flags.{CF, IE, ZF, hasFlag, setFlag}
 use Rattle.arithmetic.specs.Sums.{carryOf, incOf, decOf, adcOf, sbcOf, cpaOf, adrOf}
@@ -119,7 +120,7 @@ module _ (m : Lh5801) (small : m .t < 256) where
   same-sta : (place : Place) → Always (Same m) (staOf m place)
   unfolding staOf storeOf locateOf readopWordOf readopOf _>>=_ read write with-p
   same-sta (HalfAt h) = same-half m h (m .a)
-  same-sta (Pointer r page) = (refl, refl)
+  same-sta (Pointer page r) = (refl, refl)
   same-sta (Fixed page) = λ high low. (refl, refl)
   same-sta InCode = (refl, refl)
 
@@ -157,60 +158,60 @@ unfolding vectorIfOf readopOf _>>=_ read with-p
 same-vector-if m small c b = cond-both (Always (Same m)) (holdsOf (m .t) c) _ _ (same-vector (with-p m (up16 (m .p))) small b) (refl, refl)
 
 -- a settled instruction, by its kind
-same : (m : Lh5801) → m .t < 256 → (key : ℕ) (i : Instruction) → settledOf i ≡ true → Always (Same m) (executeOf m key i)
+same : (m : Lh5801) → m .t < 256 → (inputs : Inputs) (i : Instruction) → settledOf i ≡ true → Always (Same m) (executeOf m inputs i)
 unfolding executeOf aluOf memoryOf biiOf drrOf drlOf loadOf compareOf incHalfOf decHalfOf incWordOf decWordOf storeAtOf loadAtOf sinOf sdeOf linOf ldeOf jmpOf sjpOf rtnOf loadSOf tinOf cinOf popToOf pushFromOf adrInOf adrOf cdvOf dropWordOf readopOf readopWordOf mem16Of pushOf pushWordOf popOf popWordOf _>>=_ read write with-a with-t with-x with-y with-s with-p with-step-previous-state ldaOf cpaOf bitTestOf
-same m small key (Alu o place) s = always-then _ (operandOf m place) _ (λ f. same-operated (with-p m (f .p)) small o (f .value))
-same m small key (Sta place) s = same-sta m small place
-same m small key (Memory o place) s = always-then _ (locateOf m place) _ (λ l i b. (enabled-due m (changedOf (m .t) o b i .t) (changed-enable m small o b i), refl))
-same m small key (Bii place) s = always-then _ (locateOf m place) _ (λ l b i. (enabled-due m (bitTestOf m b i .t) (bit-enable m small b i), refl))
-same m small key (Drr place) s = always-then _ (locateOf m place) _ (λ l b. (refl, refl))
-same m small key (Drl place) s = always-then _ (locateOf m place) _ (λ l b. (refl, refl))
-same m small key (Load half place) s = always-then _ (operandOf m place) _ (λ f. same-half (with-p m (f .p)) half (f .value))
-same m small key (Compare half place) s = always-then _ (operandOf m place) _ (λ f. (enabled-due m (cpaOf m (halfIn m half) (f .value) .t) (cpa-enable m small (halfIn m half) (f .value)), refl))
-same m small key (Inc half) s = same-t-half m (incOf (m .t) (halfIn m half) .t) (add-enable (m .t) small (halfIn m half) 1 false) half (incOf (m .t) (halfIn m half) .value)
-same m small key (Dec half) s = same-t-half m (decOf (m .t) (halfIn m half) .t) (add-enable (m .t) small (halfIn m half) 255 false) half (decOf (m .t) (halfIn m half) .value)
-same m small key (IncWord r) s = same-word m r _
-same m small key (DecWord r) s = same-word m r _
-same m small key (Sin r) s = same-word m r _
-same m small key (Sde r) s = same-word m r _
-same m small key (Lin r) s = λ b. same-loaded-word m small b r (up16 (wordIn (ldaOf m b) r))
-same m small key (Lde r) s = λ b. same-loaded-word m small b r (down16 (wordIn (ldaOf m b) r))
-same m small key (Branch c forward) s = same-branch m c forward
-same m small key Lop s = same-lop m
-same m small key (VectorIf c) s = same-vector-if m small c
-same m small key (Vector nr) s = same-vector m small nr
-same m small key Jmp s = λ high low. (refl, refl)
-same m small key Sjp s = λ high low. (refl, refl)
-same m small key Rtn s = λ high low. (refl, refl)
-same m small key Rti s = absurd (false≢true s)
-same m small key LoadS s = λ high low. (refl, refl)
-same m small key Tin s = λ b. (refl, refl)
-same m small key Cin s = λ b. (enabled-due m (cpaOf m (m .a) b .t) (cpa-enable m small (m .a) b), refl)
-same m small key (OnA o) s = same-on-a m small o key s
-same m small key (Sets x v) s = same-signal m small x v s
-same m small key (PopWord r) s = λ high low. same-word (with-s m _) r _
-same m small key (PushWord r) s = (refl, refl)
-same m small key PopA s = λ b. (enabled-due m (ldaOf m b .t) (lda-enable m small b), refl)
-same m small key PushA s = (refl, refl)
-same m small key (ToX w) s = same-to-x m small w
-same m small key (FromX w) s = same-from-x m small w
-same m small key DropWord s = (refl, refl)
-same m small key (Adr r) s = same-word (with-t m _) r _
-same m small key Off s = absurd (false≢true s)
-same m small key Hlt s = absurd (false≢true s)
-same m small key Cdv s = (refl, refl)
-same m small key Nop s = (refl, refl)
+same m small inputs (Alu o place) s = always-then _ (operandOf m place) _ (λ f. same-operated (with-p m (f .p)) small o (f .value))
+same m small inputs (Sta place) s = same-sta m small place
+same m small inputs (Memory o place) s = always-then _ (locateOf m place) _ (λ l i b. (enabled-due m (changedOf (m .t) o b i .t) (changed-enable m small o b i), refl))
+same m small inputs (Bii place) s = always-then _ (locateOf m place) _ (λ l b i. (enabled-due m (bitTestOf m b i .t) (bit-enable m small b i), refl))
+same m small inputs (Drr page) s = λ b. (refl, refl)
+same m small inputs (Drl page) s = λ b. (refl, refl)
+same m small inputs (Load half) s = λ b. same-half (with-p m (up16 (m .p))) half b
+same m small inputs (Compare half) s = λ b. (enabled-due m (cpaOf m (halfIn m half) b .t) (cpa-enable m small (halfIn m half) b), refl)
+same m small inputs (Inc half) s = same-t-half m (incOf (m .t) (halfIn m half) .t) (add-enable (m .t) small (halfIn m half) 1 false) half (incOf (m .t) (halfIn m half) .value)
+same m small inputs (Dec half) s = same-t-half m (decOf (m .t) (halfIn m half) .t) (add-enable (m .t) small (halfIn m half) 255 false) half (decOf (m .t) (halfIn m half) .value)
+same m small inputs (IncWord r) s = same-word m r _
+same m small inputs (DecWord r) s = same-word m r _
+same m small inputs (Sin r) s = same-word m r _
+same m small inputs (Sde r) s = same-word m r _
+same m small inputs (Lin r) s = λ b. same-loaded-word m small b r (up16 (wordIn (ldaOf m b) r))
+same m small inputs (Lde r) s = λ b. same-loaded-word m small b r (down16 (wordIn (ldaOf m b) r))
+same m small inputs (Branch forward c) s = same-branch m c forward
+same m small inputs Lop s = same-lop m
+same m small inputs (VectorIf c) s = same-vector-if m small c
+same m small inputs (Vector nr) s = same-vector m small nr
+same m small inputs Jmp s = λ high low. (refl, refl)
+same m small inputs Sjp s = λ high low. (refl, refl)
+same m small inputs Rtn s = λ high low. (refl, refl)
+same m small inputs Rti s = absurd (false≢true s)
+same m small inputs LoadS s = λ high low. (refl, refl)
+same m small inputs Tin s = λ b. (refl, refl)
+same m small inputs Cin s = λ b. (enabled-due m (cpaOf m (m .a) b .t) (cpa-enable m small (m .a) b), refl)
+same m small inputs (OnA o) s = same-on-a m small o (inputs .keyboard) s
+same m small inputs (Sets x v) s = same-signal m small x v s
+same m small inputs (PopWord r) s = λ high low. same-word (with-s m _) r _
+same m small inputs (PushWord r) s = (refl, refl)
+same m small inputs PopA s = λ b. (enabled-due m (ldaOf m b .t) (lda-enable m small b), refl)
+same m small inputs PushA s = (refl, refl)
+same m small inputs (ToX w) s = same-to-x m small w
+same m small inputs (FromX w) s = same-from-x m small w
+same m small inputs DropWord s = (refl, refl)
+same m small inputs (Adr r) s = same-word (with-t m _) r _
+same m small inputs Off s = absurd (false≢true s)
+same m small inputs Hlt s = absurd (false≢true s)
+same m small inputs Cdv s = (refl, refl)
+same m small inputs Nop s = (refl, refl)
 
 -- the same with the states added
-settled-ready : (m : Lh5801) (p key : ℕ) (i : Instruction) (n : ℕ) {l q : Pages} {k : Lh5801}
+settled-ready : (m : Lh5801) (p : ℕ) (inputs : Inputs) (i : Instruction) (n : ℕ) {l q : Pages} {k : Lh5801}
     → m .t < 256
     → settledOf i ≡ true
     → Ready m
-    → Does (executeOf (with-p m p) key i) l k q
+    → Does (executeOf (with-p m p) inputs i) l k q
     → Ready (addStateOf k n)
 unfolding with-p addStateOf with-ticks with-timer-state
-settled-ready m p key i n {l} small s h d =
-    let t : Same m (exec (executeOf (with-p m p) key i) l .answer) = always-exec (Same m) (executeOf (with-p m p) key i) (same (with-p m p) small key i s) l in
+settled-ready m p inputs i n {l} small s h d =
+    let t : Same m (exec (executeOf (with-p m p) inputs i) l .answer) = always-exec (Same m) (executeOf (with-p m p) inputs i) (same (with-p m p) small inputs i s) l in
     rw (d .value) (record { due = t .0 ∙ h .due; clear = t .1 ∙ h .clear })
 
 -- the timer part, where it does not reach 1FF
@@ -228,15 +229,15 @@ timer-ready m h = go (leb 42 (passedOf m))
     go false e = h
 
 -- what code knows: after a settled instruction and a timer part that did not reach 1FF an instruction is due again
-pub again : (m : Lh5801) (p key : ℕ) (i : Instruction) (n : ℕ) {l q : Pages} {k now r : Lh5801}
+pub again : (m : Lh5801) (p : ℕ) (inputs : Inputs) (i : Instruction) (n : ℕ) {l q : Pages} {k now r : Lh5801}
     → m .t < 256
     → settledOf i ≡ true
     → Ready m
-    → Does (executeOf (with-p m p) key i) l k q
+    → Does (executeOf (with-p m p) inputs i) l k q
     → now ≡ addStateOf k n
     → r ≡ timerPartOf now
     → r .«is_timer_reached» ≡ false
     → Ready r
-again m p key i n {k = k} {r = r} small s h d e f c =
+again m p inputs i n {k = k} {r = r} small s h d e f c =
     let z : r ≡ timerPartOf (addStateOf k n) = f ∙ ap timerPartOf e in
-    subst Ready (sym z) (timer-ready (addStateOf k n) (settled-ready m p key i n small s h d) (subst (λ (x : Lh5801). x .«is_timer_reached» ≡ false) z c))
+    subst Ready (sym z) (timer-ready (addStateOf k n) (settled-ready m p inputs i n small s h d) (subst (λ (x : Lh5801). x .«is_timer_reached» ≡ false) z c))

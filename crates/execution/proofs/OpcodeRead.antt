@@ -4,6 +4,7 @@ use mathlib.Core.Bool.{Bool, true, false, cond}
 use Prim.Native.Nat.{ℕ}
 use lib.Dec.{eqb}
 use Rattle.arithmetic.specs.declared.record.Lh5801.{Lh5801}
+use Rattle.execution.specs.declared.Inputs.{Inputs}
 use Rattle.pages.specs.Pages.{Pages, at}
 use Rattle.pages.specs.Prog.{Prog, done, _>>=_, read, after, exec}
 use Rattle.pages.specs.Stack.{up16, readopOf}
@@ -35,9 +36,9 @@ module _ (pages : Pages) (p : ℕ) where
       go false = refl
 
 -- what an instruction comes to: what is decoded from the pages is obeyed, on the same pages
-pub instruction-answer : (m : Lh5801) (key : ℕ) (pages : Pages)
-    → exec (instructionOf m key) pages .answer
-    ≡ exec (obeyOf m key (opcodeAt pages (m .p)) (decodedBy (opcodeAt pages (m .p) .fd) (opcodeAt pages (m .p) .byte))) pages .answer
+pub instruction-answer : (m : Lh5801) (inputs : Inputs) (pages : Pages)
+    → exec (instructionOf m inputs) pages .answer
+    ≡ exec (obeyOf m inputs (opcodeAt pages (m .p)) (decodedBy (opcodeAt pages (m .p) .fd) (opcodeAt pages (m .p) .byte))) pages .answer
 unfolding instructionOf
-instruction-answer m key pages =
+instruction-answer m inputs pages =
     bind-answer (fetchOf (m .p)) _ pages ∙ rw (fetch-answer pages (m .p), fetch-pages pages (m .p))

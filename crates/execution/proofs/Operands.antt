@@ -18,7 +18,7 @@ use Rattle.execution.specs.declared.places.Half.the-variants.{High, Low,
 use Rattle.execution.specs.declared.places.Place.{Place}
 use Rattle.execution.specs.declared.places.Place.the-variants.{Half as HalfAt, Pointer, Fixed, InCode}
 use Rattle.execution.specs.Places.{wordIn, withWord, halfIn, withHalf, locateOf, operandOf}
-use Rattle.execution.specs.Operands.{chosen, registerOf, registerAt, halfOf, replaced, fixedAt, locateAt, operandAt}
+use Rattle.execution.specs.Operands.{chosen, registerOf, registerAt, halfOf, fixedAt, locateAt, operandAt}
 
 -- a register that is neither X, tag 0, nor Y, tag 1, is U
 pub third : (x y u : ℕ) (r : Register) → OneOf (1 ∷ 2 ∷ []) (tagOf the-type r) → OneOf (0 ∷ 2 ∷ []) (tagOf the-type r) → u ≡ chosen x y u r
@@ -46,16 +46,10 @@ half-in m (High r) = refl
 half-in m (Low r) = refl
 half-in m None = refl
 
-pub half-set : (m : Lh5801) (h : Half) (v : ℕ) → withWord m (registerOf h) (replaced (wordIn m (registerOf h)) h v) ≡ withHalf m h v
-unfolding with-x
-half-set m (High r) v = refl
-half-set m (Low r) v = refl
-half-set m None v = refl
-
 pub locate-at : (m : Lh5801) (place : Place) → locateAt (wordIn m (registerAt place)) (m .p) place ≡ locateOf m place
 unfolding locateAt locateOf fixedAt
 locate-at m (HalfAt h) = refl
-locate-at m (Pointer r page) = refl
+locate-at m (Pointer page r) = refl
 locate-at m (Fixed page) = refl
 locate-at m InCode = refl
 
@@ -64,7 +58,7 @@ unfolding operandAt operandOf fixedAt readopWordOf readopOf read _>>=_
 operand-at m (HalfAt (High r)) = refl
 operand-at m (HalfAt (Low r)) = refl
 operand-at m (HalfAt None) = refl
-operand-at m (Pointer r page) = refl
+operand-at m (Pointer page r) = refl
 operand-at m (Fixed page) = refl
 operand-at m InCode = refl
 

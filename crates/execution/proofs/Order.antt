@@ -1,8 +1,9 @@
 -- The code's way through a step is the definition's: one test tells whether an instruction is due.
 use Prim.Native.Nat.{ℕ, _+_}
-use mathlib.Core.Bool.{Bool, true, false, _&&_, _||_, cond, true≢false, false≢true}
+use mathlib.Core.Bool.{Bool, true, false, not, _&&_, _||_, cond, true≢false, false≢true}
 use mathlib.Core.Path.{_≡_, refl, sym, ap, subst, _∙_}
 use Rattle.arithmetic.specs.declared.record.Lh5801.{Lh5801}
+use Rattle.execution.specs.declared.Inputs.{Inputs}
 use Rattle.arithmetic.specs.declared.Looped.{Looped}
 use Rattle.arithmetic.specs.Shifts.{lopOf as loopedOf}
 use Rattle.arithmetic.specs.Record.{with-u, with-p, with-ir1, with-ir2, with-is-timer-reached}
@@ -12,26 +13,25 @@ use Rattle.pages.specs.Prog.{done, mapped}
 use Rattle.pages.specs.Contract.{Does}
 use Rattle.pages.specs.Stack.{entryOf}
 use Rattle.pages.specs.Timer.{addStateOf, timerPartOf}
-use Rattle.pages.proofs.Does.{does-then, does-done, does-mapped}
+use Rattle.pages.proofs.Does.{does-then, does-done, does-mapped, does-through}
 use Rattle.execution.specs.declared.instructions.Instruction.{Instruction}
+use Rattle.execution.specs.declared.instructions.Decoded.{Decoded}
 use Rattle.execution.specs.declared.instructions.Decoded.the-variants.{Listed, Unlisted}
+use Rattle.execution.specs.declared.Executed.{Executed}
+use Rattle.execution.specs.declared.Executed.the-variants.{Again, Completed as CompletedThere, Stopped as StoppedThere}
 use Rattle.execution.specs.declared.Fetched.{Fetched}
 use Rattle.execution.specs.declared.Stop.{Stop}
 use Rattle.execution.specs.declared.Stop.the-variants.{Halted}
+use Rattle.execution.specs.declared.Outcome.{Outcome}
 use Rattle.execution.specs.declared.Outcome.the-variants.{Completed, Stopped}
 use Rattle.execution.specs.Instructions.{branchedOf, executeOf}
 use Rattle.execution.specs.States.{addedOf}
-use Rattle.execution.specs.Step.{off, frozen, entry, instruction, did, stopped, outcomeOf, fetchOf, decodedBy, unlistedBy, obeyOf, instructionOf, enteredOf, reachedOf, poweredOf, stepOf}
-use Rattle.execution.specs.Due.{dueBy, dueOf, Ready}
-use Rattle.execution.proofs.Tests.{reached-same, unheld}
+use Rattle.execution.specs.Step.{off, frozen, entry, instruction, StepEnd, did, stopped, outcomeOf, fetchOf, decodedBy, unlistedBy, obeyOf, instructionOf, enteredOf, reachedOf, poweredOf, stepOf}
+use Rattle.execution.specs.Due.{dueBy, dueOf, Ready, settledOf, settledBy, executedAs, executedOf}
+use Rattle.execution.proofs.Tests.{cond-true, cond-false, reached-same, unheld}
 use Rattle.execution.proofs.DueTest.{due-is}
 
--- a choice by a test that is known. (`rw` with the test would change the record's field too)
-pub chosen-first : {A : Type 0} {b : Bool} (x y : A) → b ≡ true → cond b x y ≡ x
-chosen-first x y e = rw e
-
-pub chosen-second : {A : Type 0} {b : Bool} (x y : A) → b ≡ false → cond b x y ≡ y
-chosen-second x y e = rw e
+-- a choice by a test that is known is made by `cond-true` and `cond-false`: `rw` with the test would change the record's field too
 
 -- LOP, by what its count told
 module _ (m : Lh5801) (p offset : ℕ) where
@@ -41,21 +41,21 @@ module _ (m : Lh5801) (p offset : ℕ) where
   pub loop-again : {l : Looped} {counted r : Lh5801} → l ≡ loopedOf (m .u) → l .again ≡ true → counted ≡ with-u m (l .u) → r ≡ branchedOf counted p offset false
       → LoopEnd r (loopedOf (m .u))
   loop-again {l} {counted} {r} told a c e =
-      subst (LoopEnd r) told (e ∙ ap (λ (k : Lh5801). branchedOf k p offset false) c ∙ sym (chosen-first (branchedOf (with-u m (l .u)) p offset false) (with-p (with-u m (l .u)) p) a))
+      subst (LoopEnd r) told (e ∙ ap (λ (k : Lh5801). branchedOf k p offset false) c ∙ sym (cond-true _ (branchedOf (with-u m (l .u)) p offset false) (with-p (with-u m (l .u)) p) a))
 
   pub loop-over : {l : Looped} {counted r : Lh5801} → l ≡ loopedOf (m .u) → l .again ≡ false → counted ≡ with-u m (l .u) → r ≡ with-p counted p
       → LoopEnd r (loopedOf (m .u))
   loop-over {l} {counted} {r} told a c e =
-      subst (LoopEnd r) told (e ∙ ap (λ (k : Lh5801). with-p k p) c ∙ sym (chosen-second (branchedOf (with-u m (l .u)) p offset false) (with-p (with-u m (l .u)) p) a))
+      subst (LoopEnd r) told (e ∙ ap (λ (k : Lh5801). with-p k p) c ∙ sym (cond-false _ (branchedOf (with-u m (l .u)) p offset false) (with-p (with-u m (l .u)) p) a))
 
 module _ (m : Lh5801) where
   pub reached-moves : m .«is_timer_reached» ≡ true → reachedOf m ≡ with-is-timer-reached (with-ir1 m true) false
   unfolding reachedOf
-  reached-moves e = chosen-first (with-is-timer-reached (with-ir1 m true) false) m e
+  reached-moves e = cond-true _ (with-is-timer-reached (with-ir1 m true) false) m e
 
   pub reached-stays : m .«is_timer_reached» ≡ false → reachedOf m ≡ m
   unfolding reachedOf
-  reached-stays e = chosen-second (with-is-timer-reached (with-ir1 m true) false) m e
+  reached-stays e = cond-false _ (with-is-timer-reached (with-ir1 m true) false) m e
 
 -- which keeps TM
 pub reached-tm : (m : Lh5801) → reachedOf m .tm ≡ m .tm
@@ -111,16 +111,16 @@ module _ {A B : Type 0} (f : B → ℕ → A) (a d : A) (x y : B) where
   no-request false false false e z t = refl
 
 -- a step with BF set, by what is tested; timer reached is clear
-module _ (m : Lh5801) (key : ℕ) (on : m .bf ≡ true) (clear : m .«is_timer_reached» ≡ false) where
-  step-powered : stepOf m key ≡ poweredOf m key
+module _ (m : Lh5801) (inputs : Inputs) (on : m .bf ≡ true) (clear : m .«is_timer_reached» ≡ false) where
+  step-powered : stepOf m inputs ≡ poweredOf m inputs
   unfolding stepOf
   step-powered =
-      chosen-first (poweredOf (reachedOf m) key) (done (did (addStateOf m 8) 8 off)) on ∙ ap (λ (k : Lh5801). poweredOf k key) (reached-stays m clear)
+      cond-true _ (poweredOf (reachedOf m) inputs) (done (did (addStateOf m 8) 8 off)) on ∙ ap (λ (k : Lh5801). poweredOf k inputs) (reached-stays m clear)
 
-  pub step-frozen : {p : Pages} {r : Lh5801} → m .ir0 ≡ true → r ≡ timerPartOf m → Does (mapped outcomeOf (stepOf m key)) p (Completed r) p
+  pub step-frozen : {p : Pages} {r : Lh5801} → m .ir0 ≡ true → r ≡ timerPartOf m → Does (mapped outcomeOf (stepOf m inputs)) p (Completed r) p
   unfolding poweredOf
   step-frozen {r = r} a f =
-      rw (step-powered, chosen-first (done (did (timerPartOf m) 0 frozen)) _ a)
+      rw (step-powered, cond-true _ (done (did (timerPartOf m) 0 frozen)) _ a)
       (does-mapped outcomeOf {r = did r 0 frozen} (does-done (ap (λ (x : Lh5801). did x 0 frozen) f)))
 
   module _ (e : Bool) (enabled : e ≡ hasFlag (m .t) IE) (free : m .ir0 ≡ false) where
@@ -129,26 +129,26 @@ module _ (m : Lh5801) (key : ℕ) (on : m .bf ≡ true) (clear : m .«is_timer_r
         → vector ≡ cond (m .ir1) 0xFFFA 0xFFF8
         → Does (entryOf l vector) p k q
         → r ≡ timerPartOf k
-        → Does (mapped outcomeOf (stepOf m key)) p (Completed r) q
+        → Does (mapped outcomeOf (stepOf m inputs)) p (Completed r) q
     unfolding poweredOf enteredOf
     step-entered {r = r} {vector = vector} b u v d f =
-        rw (step-powered, ← enabled, some-request enteredOf (done (did (timerPartOf m) 0 frozen)) (cond (m .«is_halted») (done (stopped Halted)) (instructionOf m key)) (with-ir1 m false) (with-ir2 m false) (m .ir0) (m .ir1) (m .ir2) e free b, ← u, ← v)
+        rw (step-powered, ← enabled, some-request enteredOf (done (did (timerPartOf m) 0 frozen)) (cond (m .«is_halted») (done (stopped Halted)) (instructionOf m inputs)) (with-ir1 m false) (with-ir2 m false) (m .ir0) (m .ir1) (m .ir2) e free b, ← u, ← v)
         (does-mapped outcomeOf {r = did r 0 (entry vector)} (does-then _ d (does-done (ap (λ (x : Lh5801). did x 0 (entry vector)) f))))
 
-    pub step-halted : {p : Pages} → ((m .ir1 || m .ir2) && e) ≡ false → dueOf m ≡ false → Does (mapped outcomeOf (stepOf m key)) p (Stopped Halted) p
+    pub step-halted : {p : Pages} → ((m .ir1 || m .ir2) && e) ≡ false → dueOf m ≡ false → Does (mapped outcomeOf (stepOf m inputs)) p (Stopped Halted) p
     unfolding poweredOf
     step-halted b n =
         let h : m .«is_halted» ≡ true = test-halted (m .bf) (m .ir0) (m .ir1) (m .«is_timer_reached») (m .ir2) (hasFlag (m .t) IE) (m .«is_halted») n on clear free (rw (← enabled) b) in
-        rw (step-powered, ← enabled, no-request enteredOf (done (did (timerPartOf m) 0 frozen)) (cond (m .«is_halted») (done (stopped Halted)) (instructionOf m key)) (with-ir1 m false) (with-ir2 m false) (m .ir0) (m .ir1) (m .ir2) e free b, chosen-first (done (stopped Halted)) (instructionOf m key) h)
+        rw (step-powered, ← enabled, no-request enteredOf (done (did (timerPartOf m) 0 frozen)) (cond (m .«is_halted») (done (stopped Halted)) (instructionOf m inputs)) (with-ir1 m false) (with-ir2 m false) (m .ir0) (m .ir1) (m .ir2) e free b, cond-true _ (done (stopped Halted)) (instructionOf m inputs) h)
         (does-mapped outcomeOf {r = stopped Halted} (does-done refl))
 
 -- where an instruction is due, the step is its
-pub step-due : (m : Lh5801) (key : ℕ) → Ready m → stepOf m key ≡ instructionOf m key
-step-due m key h =
+pub step-due : (m : Lh5801) (inputs : Inputs) → Ready m → stepOf m inputs ≡ instructionOf m inputs
+step-due m inputs h =
     let d = due-is m .0 (h .due) in
-    unheld m key (d .on) (d .free) (d .none)
-    ∙ chosen-second (done (stopped Halted)) (instructionOf (reachedOf m) key) (d .running)
-    ∙ ap (λ (k : Lh5801). instructionOf k key) (reached-stays m (h .clear))
+    unheld m inputs (d .on) (d .free) (d .none)
+    ∙ cond-false _ (done (stopped Halted)) (instructionOf (reachedOf m) inputs) (d .running)
+    ∙ ap (λ (k : Lh5801). instructionOf k inputs) (reached-stays m (h .clear))
 
 -- timer reached moved to IR1: the same step, and an instruction is due or not as before
 module _ (m : Lh5801) where
@@ -177,36 +177,91 @@ module _ (m : Lh5801) where
   pub reached-ready : dueOf m ≡ true → Ready (reachedOf m)
   reached-ready h = record { due = reached-due ∙ h; clear = reached-clear }
 
-  pub step-reached : (key : ℕ) → m .bf ≡ true → stepOf (reachedOf m) key ≡ stepOf m key
+  pub step-reached : (inputs : Inputs) → m .bf ≡ true → stepOf (reachedOf m) inputs ≡ stepOf m inputs
   unfolding stepOf
-  step-reached key on =
-      step-powered (reachedOf m) key (reached-bf ∙ on) reached-clear
-      ∙ sym (chosen-first (poweredOf (reachedOf m) key) (done (did (addStateOf m 8) 8 off)) on)
+  step-reached inputs on =
+      step-powered (reachedOf m) inputs (reached-bf ∙ on) reached-clear
+      ∙ sym (cond-true _ (poweredOf (reachedOf m) inputs) (done (did (addStateOf m 8) 8 off)) on)
+
+-- how the step of an instruction ends, by what the code asks of it
+executed-again : (fd : Bool) (byte : ℕ) (m : Lh5801) {i : Instruction} {n : ℕ} {b r : Bool} → decodedBy fd byte ≡ Listed i n → settledOf i ≡ b → m .«is_timer_reached» ≡ r
+    → cond (b && not r) (Again m) (CompletedThere m) ≡ executedAs (instruction fd byte) m
+executed-again fd byte m {i} {n} {b} {r} e s t =
+    sym (ap (λ (d : Decoded). cond (settledBy d && not (m .«is_timer_reached»)) (Again m) (CompletedThere m)) e
+    ∙ ap (λ (k : Bool). cond (k && not (m .«is_timer_reached»)) (Again m) (CompletedThere m)) s
+    ∙ ap (λ (k : Bool). cond (b && not k) (Again m) (CompletedThere m)) t)
+
+executed-over : (fd : Bool) (byte : ℕ) (m : Lh5801) {i : Instruction} {n : ℕ} → decodedBy fd byte ≡ Listed i n → settledOf i ≡ false
+    → CompletedThere m ≡ executedAs (instruction fd byte) m
+executed-over fd byte m e s = executed-again fd byte m e s refl
 
 -- an instruction, by what its byte decodes to
-module _ (m : Lh5801) (key : ℕ) where
-  pub instruction-listed : {o : Fetched} {l p q : Pages} {i : Instruction} {n : ℕ} {k r : Lh5801}
+module _ (m : Lh5801) (inputs : Inputs) where
+  instruction-did : {o : Fetched} {l p q : Pages} {i : Instruction} {n : ℕ} {k r : Lh5801} {x : Executed}
       → Does (fetchOf (m .p)) l o p
       → decodedBy (o .fd) (o .byte) ≡ Listed i n
-      → Does (executeOf (with-p m (o .p)) key i) p k q
+      → Does (executeOf (with-p m (o .p)) inputs i) p k q
       → r ≡ timerPartOf (addStateOf k n)
-      → Does (mapped outcomeOf (instructionOf m key)) l (Completed r) q
+      → x ≡ executedAs (instruction (o .fd) (o .byte)) r
+      → Does (mapped executedOf (instructionOf m inputs)) l x q
   unfolding instructionOf obeyOf
-  instruction-listed {o = o} {i = i} {n = n} {r = r} f e x t =
-      does-mapped outcomeOf {r = did r (n + addedOf m i) (instruction (o .fd) (o .byte))}
-      (does-then _ f (rw e (does-then _ x (does-done (ap (λ (y : Lh5801). did y (n + addedOf m i) (instruction (o .fd) (o .byte))) t)))))
+  instruction-did {o = o} {i = i} {n = n} {r = r} f e x t y =
+      rw y
+      (does-mapped executedOf {r = did r (n + addedOf m i) (instruction (o .fd) (o .byte))}
+      (does-then _ f (rw e (does-then _ x (does-done (ap (λ (y : Lh5801). did y (n + addedOf m i) (instruction (o .fd) (o .byte))) t))))))
+
+  -- a settled instruction, and one that is not
+  pub instruction-settled : {o : Fetched} {l p q : Pages} {i : Instruction} {n : ℕ} {k r : Lh5801} (b : Bool)
+      → Does (fetchOf (m .p)) l o p
+      → decodedBy (o .fd) (o .byte) ≡ Listed i n
+      → Does (executeOf (with-p m (o .p)) inputs i) p k q
+      → r ≡ timerPartOf (addStateOf k n)
+      → settledOf i ≡ true
+      → r .«is_timer_reached» ≡ b
+      → Does (mapped executedOf (instructionOf m inputs)) l (cond (not b) (Again r) (CompletedThere r)) q
+  instruction-settled {o = o} {r = r} b f e x t s h = instruction-did f e x t (executed-again (o .fd) (o .byte) r e s h)
+
+  pub instruction-other : {o : Fetched} {l p q : Pages} {i : Instruction} {n : ℕ} {k r : Lh5801}
+      → Does (fetchOf (m .p)) l o p
+      → decodedBy (o .fd) (o .byte) ≡ Listed i n
+      → Does (executeOf (with-p m (o .p)) inputs i) p k q
+      → r ≡ timerPartOf (addStateOf k n)
+      → settledOf i ≡ false
+      → Does (mapped executedOf (instructionOf m inputs)) l (CompletedThere r) q
+  instruction-other {o = o} {r = r} f e x t s = instruction-did f e x t (executed-over (o .fd) (o .byte) r e s)
 
   pub instruction-unlisted : {o : Fetched} {l p : Pages} {s : Stop}
       → Does (fetchOf (m .p)) l o p
       → decodedBy (o .fd) (o .byte) ≡ Unlisted
       → s ≡ unlistedBy (o .fd) (o .byte)
-      → Does (mapped outcomeOf (instructionOf m key)) l (Stopped s) p
+      → Does (mapped executedOf (instructionOf m inputs)) l (StoppedThere s) p
   unfolding instructionOf obeyOf
-  instruction-unlisted {s = s} f e t = does-mapped outcomeOf {r = stopped s} (does-then _ f (rw e (does-done (ap stopped t))))
+  instruction-unlisted {s = s} f e t = does-mapped executedOf {r = stopped s} (does-then _ f (rw e (does-done (ap stopped t))))
+
+-- the same without the word that an instruction is due again
+abbrev outcomeIn : Executed → Outcome
+outcomeIn (Again m) = Completed m
+outcomeIn (CompletedThere m) = Completed m
+outcomeIn (StoppedThere s) = Stopped s
+
+either-completed : (b : Bool) (m : Lh5801) → outcomeIn (cond b (Again m) (CompletedThere m)) ≡ Completed m
+either-completed true m = refl
+either-completed false m = refl
+
+executed-outcome : (e : StepEnd) → outcomeIn (executedOf e) ≡ outcomeOf e
+executed-outcome (did m states off) = refl
+executed-outcome (did m states frozen) = refl
+executed-outcome (did m states (entry vector)) = refl
+executed-outcome (did m states (instruction fd byte)) = either-completed (settledBy (decodedBy fd byte) && not (m .«is_timer_reached»)) m
+executed-outcome (stopped s) = refl
+
+pub executed-told : (m : Lh5801) (inputs : Inputs) {p q : Pages} {r : Executed} → Does (mapped executedOf (stepOf m inputs)) p r q
+    → Does (mapped outcomeOf (stepOf m inputs)) p (outcomeIn r) q
+executed-told m inputs d = does-through executedOf outcomeOf outcomeIn executed-outcome (stepOf m inputs) d
 
 -- a step with BF clear
-pub step-off : (m : Lh5801) (key : ℕ) {p : Pages} {r : Lh5801} → m .bf ≡ false → r ≡ addStateOf m 8 → Does (mapped outcomeOf (stepOf m key)) p (Completed r) p
+pub step-off : (m : Lh5801) (inputs : Inputs) {p : Pages} {r : Lh5801} → m .bf ≡ false → r ≡ addStateOf m 8 → Does (mapped outcomeOf (stepOf m inputs)) p (Completed r) p
 unfolding stepOf
-step-off m key {r = r} e f =
-    rw (chosen-second (poweredOf (reachedOf m) key) (done (did (addStateOf m 8) 8 off)) e)
+step-off m inputs {r = r} e f =
+    rw (cond-false _ (poweredOf (reachedOf m) inputs) (done (did (addStateOf m 8) 8 off)) e)
     (does-mapped outcomeOf {r = did r 8 off} (does-done (ap (λ (x : Lh5801). did x 8 off) f)))

@@ -12,7 +12,7 @@ use Rattle.execution.specs.Places.{wordIn, addressOf, locateOf}
 use Rattle.execution.specs.Instructions.{biiOf}
 
 pub bii-reads : (m : Lh5801) (r : Register) (page : Page) (p : Pages)
-    → exec (biiOf m (Pointer r page)) p .accesses
+    → exec (biiOf m (Pointer page r)) p .accesses
     ≡ readOf (addressOf (wordIn m r) page) (at p (addressOf (wordIn m r) page)) ∷ readOf (m .p) (at p (m .p)) ∷ []
 unfolding biiOf locateOf readopOf read _>>=_ after exec
 bii-reads m r page p = refl

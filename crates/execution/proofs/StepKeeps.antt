@@ -5,6 +5,7 @@ use Prim.Native.Nat.{ℕ, _+_, _%_, _^_, _<_}
 use native.Mathlib.Omega.{arith}
 use lib.Dec.{leb}
 use Rattle.arithmetic.specs.declared.record.Lh5801.{Lh5801}
+use Rattle.execution.specs.declared.Inputs.{Inputs}
 use Rattle.arithmetic.specs.Record.{with-p, with-tm, with-ir1, with-ir2, with-is-timer-reached, with-step-previous-state, with-timer-state, with-ticks}
 use Rattle.pages.specs.Pages.{Pages}
 use Rattle.pages.specs.Stack.{entryOf}
@@ -66,41 +67,41 @@ module _ (m : Lh5801) (small : m .tm < 512) where
   told-entered at =
       always-bind _ _ (entryOf m at) _ (entry-kept m at) (λ k s. told-timer m k 0 (rw (s .0) small, rw (s .1) (omega arith)))
 
-  module _ (key : ℕ) where
-    told-obeyed : (o : Fetched) (d : Decoded) → Always (ToldEnd m) (obeyOf m key o d)
+  module _ (inputs : Inputs) where
+    told-obeyed : (o : Fetched) (d : Decoded) → Always (ToldEnd m) (obeyOf m inputs o d)
     unfolding obeyOf with-p
     told-obeyed o (Listed i n) =
-        always-bind _ _ (executeOf (with-p m (o .p)) key i) _ (told (with-p m (o .p)) small key i)
+        always-bind _ _ (executeOf (with-p m (o .p)) inputs i) _ (told (with-p m (o .p)) small inputs i)
         (λ k t. told-timer m (addStateOf k n) _ (rw (added-any-p m (o .p) i) at (told-states m k n _ t)))
     told-obeyed o Unlisted = tt
 
-    told-instruction : Always (ToldEnd m) (instructionOf m key)
+    told-instruction : Always (ToldEnd m) (instructionOf m inputs)
     unfolding instructionOf
     told-instruction = always-then _ (fetchOf (m .p)) _ (λ o. told-obeyed o (decodedBy (o .fd) (o .byte)))
 
-told-powered : (m : Lh5801) → m .tm < 512 → (key : ℕ) → Always (ToldEnd m) (poweredOf m key)
+told-powered : (m : Lh5801) → m .tm < 512 → (inputs : Inputs) → Always (ToldEnd m) (poweredOf m inputs)
 unfolding with-ir1 with-ir2
-told-powered m small key =
-    powered-ways (Always (ToldEnd m)) m key (told-timer m m 0 (told-unchanged m small)) (told-entered (with-ir1 m false) small 0xFFFA)
+told-powered m small inputs =
+    powered-ways (Always (ToldEnd m)) m inputs (told-timer m m 0 (told-unchanged m small)) (told-entered (with-ir1 m false) small 0xFFFA)
     (told-entered (with-ir2 m false) small 0xFFF8)
     tt
-    (told-instruction m small key)
+    (told-instruction m small inputs)
 
-told-step : (m : Lh5801) → m .tm < 512 → (key : ℕ) → Always (ToldEnd m) (stepOf m key)
+told-step : (m : Lh5801) → m .tm < 512 → (inputs : Inputs) → Always (ToldEnd m) (stepOf m inputs)
 unfolding with-ir1 with-is-timer-reached
-told-step m small key =
-    step-ways (Always (ToldEnd m)) m key (told-off m small) (told-powered (moved m) small key) (told-powered m small key)
+told-step m small inputs =
+    step-ways (Always (ToldEnd m)) m inputs (told-off m small) (told-powered (moved m) small inputs) (told-powered m small inputs)
 
 -- a completed step keeps TM at most 511
-pub step-small : (m : Lh5801) (key : ℕ) → m .tm < 512
+pub step-small : (m : Lh5801) (inputs : Inputs) → m .tm < 512
     → (pages : Pages) (k : Lh5801) (s : ℕ) (kind : Kind)
-    → exec (stepOf m key) pages .answer ≡ did k s kind
+    → exec (stepOf m inputs) pages .answer ≡ did k s kind
     → k .tm < 512
-step-small m key small pages k s kind e = did-exec _ (stepOf m key) (told-step m small key) pages k s kind e .0
+step-small m inputs small pages k s kind e = did-exec _ (stepOf m inputs) (told-step m small inputs) pages k s kind e .0
 
 -- a completed step adds its states to the ticks, on 64 bits
-pub step-ticks : (m : Lh5801) (key : ℕ) → m .tm < 512
+pub step-ticks : (m : Lh5801) (inputs : Inputs) → m .tm < 512
     → (pages : Pages) (k : Lh5801) (s : ℕ) (kind : Kind)
-    → exec (stepOf m key) pages .answer ≡ did k s kind
+    → exec (stepOf m inputs) pages .answer ≡ did k s kind
     → k .ticks % 2 ^ 64 ≡ (m .ticks + s) % 2 ^ 64
-step-ticks m key small pages k s kind e = did-exec _ (stepOf m key) (told-step m small key) pages k s kind e .1
+step-ticks m inputs small pages k s kind e = did-exec _ (stepOf m inputs) (told-step m small inputs) pages k s kind e .1

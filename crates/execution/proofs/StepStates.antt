@@ -4,6 +4,7 @@ use mathlib.Core.Bool.{Bool, true, false}
 use Prim.Native.Nat.{ℕ, _+_, _≤_}
 use native.Mathlib.Omega.{arith}
 use Rattle.arithmetic.specs.declared.record.Lh5801.{Lh5801}
+use Rattle.execution.specs.declared.Inputs.{Inputs}
 use Rattle.arithmetic.specs.Record.{with-p, with-ir1, with-ir2}
 use Rattle.pages.specs.Pages.{Pages}
 use Rattle.pages.specs.Stack.{entryOf}
@@ -43,34 +44,34 @@ listed-by : (fd : Bool) (byte : ℕ) (i : Instruction) (n : ℕ) → decodedBy f
 listed-by true byte i n e = listed-states-fd byte e
 listed-by false byte i n e = listed-states byte e
 
-fits-obeyed : (m : Lh5801) (key : ℕ) (o : Fetched) (d : Decoded) → decodedBy (o .fd) (o .byte) ≡ d → Always Fits (obeyOf m key o d)
+fits-obeyed : (m : Lh5801) (inputs : Inputs) (o : Fetched) (d : Decoded) → decodedBy (o .fd) (o .byte) ≡ d → Always Fits (obeyOf m inputs o d)
 unfolding obeyOf
-fits-obeyed m key o (Listed i n) e = always-then Fits (executeOf (with-p m (o .p)) key i) _
+fits-obeyed m inputs o (Listed i n) e = always-then Fits (executeOf (with-p m (o .p)) inputs i) _
     (λ k. (omega (arith, listed-by (o .fd) (o .byte) i n e), omega (arith, listed-by (o .fd) (o .byte) i n e, added-most m i)))
-fits-obeyed m key o Unlisted e = tt
+fits-obeyed m inputs o Unlisted e = tt
 
-fits-instruction : (m : Lh5801) (key : ℕ) → Always Fits (instructionOf m key)
+fits-instruction : (m : Lh5801) (inputs : Inputs) → Always Fits (instructionOf m inputs)
 unfolding instructionOf
-fits-instruction m key = always-then Fits (fetchOf (m .p)) _ (λ o. fits-obeyed m key o (decodedBy (o .fd) (o .byte)) refl)
+fits-instruction m inputs = always-then Fits (fetchOf (m .p)) _ (λ o. fits-obeyed m inputs o (decodedBy (o .fd) (o .byte)) refl)
 
-fits-powered : (m : Lh5801) (key : ℕ) → Always Fits (poweredOf m key)
-fits-powered m key =
-    powered-ways (Always Fits) m key (omega arith, omega arith) (fits-entered (with-ir1 m false) 0xFFFA)
+fits-powered : (m : Lh5801) (inputs : Inputs) → Always Fits (poweredOf m inputs)
+fits-powered m inputs =
+    powered-ways (Always Fits) m inputs (omega arith, omega arith) (fits-entered (with-ir1 m false) 0xFFFA)
     (fits-entered (with-ir2 m false) 0xFFF8)
     tt
-    (fits-instruction m key)
+    (fits-instruction m inputs)
 
-fits-step : (m : Lh5801) (key : ℕ) → Always Fits (stepOf m key)
-fits-step m key = step-ways (Always Fits) m key (omega arith, omega arith) (fits-powered (moved m) key) (fits-powered m key)
+fits-step : (m : Lh5801) (inputs : Inputs) → Always Fits (stepOf m inputs)
+fits-step m inputs = step-ways (Always Fits) m inputs (omega arith, omega arith) (fits-powered (moved m) inputs) (fits-powered m inputs)
 
 -- a completed step has the states of its kind: 8 with BF clear, 0 frozen and for an entry, 4 to 23 for an instruction
-pub step-kind-states : (m : Lh5801) (key : ℕ) (pages : Pages) (k : Lh5801) (s : ℕ) (kind : Kind)
-    → exec (stepOf m key) pages .answer ≡ did k s kind
+pub step-kind-states : (m : Lh5801) (inputs : Inputs) (pages : Pages) (k : Lh5801) (s : ℕ) (kind : Kind)
+    → exec (stepOf m inputs) pages .answer ≡ did k s kind
     → (fewestStates kind ≤ s) × (s ≤ mostStates kind)
-step-kind-states m key pages k s kind e = did-exec _ (stepOf m key) (fits-step m key) pages k s kind e
+step-kind-states m inputs pages k s kind e = did-exec _ (stepOf m inputs) (fits-step m inputs) pages k s kind e
 
 -- a completed step has 23 states at most
-pub step-states : (m : Lh5801) (key : ℕ) (pages : Pages) (k : Lh5801) (s : ℕ) (kind : Kind)
-    → exec (stepOf m key) pages .answer ≡ did k s kind
+pub step-states : (m : Lh5801) (inputs : Inputs) (pages : Pages) (k : Lh5801) (s : ℕ) (kind : Kind)
+    → exec (stepOf m inputs) pages .answer ≡ did k s kind
     → s ≤ 23
-step-states m key pages k s kind e = omega (arith, step-kind-states m key pages k s kind e, most-23 kind)
+step-states m inputs pages k s kind e = omega (arith, step-kind-states m inputs pages k s kind e, most-23 kind)

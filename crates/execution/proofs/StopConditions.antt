@@ -7,6 +7,7 @@ use native.Mathlib.Omega.{arith}
 use lib.Dec.{eqb}
 use borrow.Author.Tests.{eqb-true, eqb-false, eq-eqb, ne-eqb}
 use Rattle.arithmetic.specs.declared.record.Lh5801.{Lh5801}
+use Rattle.execution.specs.declared.Inputs.{Inputs}
 use Rattle.pages.specs.Pages.{Pages, at}
 use Rattle.pages.specs.Prog.{exec}
 use Rattle.pages.specs.Stack.{up16}
@@ -26,20 +27,20 @@ use Rattle.execution.proofs.StopsClean.{IsDid, did-listed}
 use Rattle.execution.proofs.Tests.{cond-true, cond-false, reached-p, off-step, frozen-step, unheld, accepted-step}
 
 -- what a decoded opcode comes to
-obeyed : Lh5801 → ℕ → Pages → Fetched → StepEnd
-obeyed m key pages o = exec (obeyOf m key o (decodedBy (o .fd) (o .byte))) pages .answer
+obeyed : Lh5801 → Inputs → Pages → Fetched → StepEnd
+obeyed m inputs pages o = exec (obeyOf m inputs o (decodedBy (o .fd) (o .byte))) pages .answer
 
-obeyed-unlisted : (m : Lh5801) (key : ℕ) (pages : Pages) (o : Fetched) → decodedBy (o .fd) (o .byte) ≡ Unlisted
-    → obeyed m key pages o ≡ stopped (unlistedBy (o .fd) (o .byte))
+obeyed-unlisted : (m : Lh5801) (inputs : Inputs) (pages : Pages) (o : Fetched) → decodedBy (o .fd) (o .byte) ≡ Unlisted
+    → obeyed m inputs pages o ≡ stopped (unlistedBy (o .fd) (o .byte))
 unfolding obeyed obeyOf exec
-obeyed-unlisted m key pages o e = ap (λ d. exec (obeyOf m key o d) pages .answer) e
+obeyed-unlisted m inputs pages o e = ap (λ d. exec (obeyOf m inputs o d) pages .answer) e
 
-obeyed-listed : (m : Lh5801) (key : ℕ) (pages : Pages) (o : Fetched) (i : Instruction) (n : ℕ) → decodedBy (o .fd) (o .byte) ≡ Listed i n
-    → IsDid (obeyed m key pages o)
+obeyed-listed : (m : Lh5801) (inputs : Inputs) (pages : Pages) (o : Fetched) (i : Instruction) (n : ℕ) → decodedBy (o .fd) (o .byte) ≡ Listed i n
+    → IsDid (obeyed m inputs pages o)
 unfolding obeyed
-obeyed-listed m key pages o i n e =
-    subst (λ d. IsDid (exec (obeyOf m key o d) pages .answer)) (sym e)
-    (always-exec IsDid (obeyOf m key o (Listed i n)) (did-listed m key o i n) pages)
+obeyed-listed m inputs pages o i n e =
+    subst (λ d. IsDid (exec (obeyOf m inputs o d) pages .answer)) (sym e)
+    (always-exec IsDid (obeyOf m inputs o (Listed i n)) (did-listed m inputs o i n) pages)
 
 -- the opcode, by whether the first byte is FD
 opcode-first : (pages : Pages) (p b : ℕ) → at pages p ≡ b → ¬ (b ≡ 0xFD) → opcodeAt pages p ≡ fetched false b (up16 p)
@@ -50,32 +51,32 @@ opcode-second : (pages : Pages) (p b : ℕ) → at pages p ≡ 0xFD → at pages
 opcode-second pages p b h e =
     cond-true (eqb (at pages p) 0xFD) _ _ (eq-eqb (at pages p) 0xFD h) ∙ ap (λ n. fetched true n (up16 (up16 p))) e
 
-module _ (m : Lh5801) (key : ℕ) (pages : Pages) where
+module _ (m : Lh5801) (inputs : Inputs) (pages : Pages) where
   answer : StepEnd
-  answer = exec (stepOf m key) pages .answer
+  answer = exec (stepOf m inputs) pages .answer
 
   -- each condition tells the answer
   halted-answer : HaltedStop m → answer ≡ stopped Halted
   unfolding answer exec
   halted-answer h =
-      ap (λ p. exec p pages .answer) (unheld m key (h .on) (h .free) (h .none) ∙ cond-true (m .«is_halted») _ _ (h .halted))
+      ap (λ p. exec p pages .answer) (unheld m inputs (h .on) (h .free) (h .none) ∙ cond-true (m .«is_halted») _ _ (h .halted))
 
-  due-answer : Due m → (o : Fetched) → opcodeAt pages (m .p) ≡ o → answer ≡ obeyed (reachedOf m) key pages o
+  due-answer : Due m → (o : Fetched) → opcodeAt pages (m .p) ≡ o → answer ≡ obeyed (reachedOf m) inputs pages o
   unfolding answer obeyed
   due-answer d o e =
-      ap (λ p. exec p pages .answer) (unheld m key (d .on) (d .free) (d .none) ∙ cond-false (m .«is_halted») _ _ (d .running))
-      ∙ instruction-answer (reachedOf m) key pages
-      ∙ ap (obeyed (reachedOf m) key pages) (ap (opcodeAt pages) (reached-p m) ∙ e)
+      ap (λ p. exec p pages .answer) (unheld m inputs (d .on) (d .free) (d .none) ∙ cond-false (m .«is_halted») _ _ (d .running))
+      ∙ instruction-answer (reachedOf m) inputs pages
+      ∙ ap (obeyed (reachedOf m) inputs pages) (ap (opcodeAt pages) (reached-p m) ∙ e)
 
   first-answer : (b : ℕ) → FirstUnlisted m pages b → answer ≡ stopped (UnlistedByte b)
   first-answer b f =
       let o : Fetched = fetched false b (up16 (m .p)) in
-      due-answer (f .due) o (opcode-first pages (m .p) b (f .first) (f .other)) ∙ obeyed-unlisted (reachedOf m) key pages o (f .unlisted)
+      due-answer (f .due) o (opcode-first pages (m .p) b (f .first) (f .other)) ∙ obeyed-unlisted (reachedOf m) inputs pages o (f .unlisted)
 
   second-answer : (b : ℕ) → SecondUnlisted m pages b → answer ≡ stopped (UnlistedFd b)
   second-answer b f =
       let o : Fetched = fetched true b (up16 (up16 (m .p))) in
-      due-answer (f .due) o (opcode-second pages (m .p) b (f .first) (f .second)) ∙ obeyed-unlisted (reachedOf m) key pages o (f .unlisted)
+      due-answer (f .due) o (opcode-second pages (m .p) b (f .first) (f .second)) ∙ obeyed-unlisted (reachedOf m) inputs pages o (f .unlisted)
 
   -- one of the conditions holds, or the step is completed
   data Case : Type 0 where
@@ -87,13 +88,13 @@ module _ (m : Lh5801) (key : ℕ) (pages : Pages) where
   case-first : Due m → (b : ℕ) → firstByte m pages ≡ b → ¬ (b ≡ 0xFD) → (d : Decoded) → decoded b ≡ d → Case
   case-first due b f h (Listed i n) e =
       let o : Fetched = fetched false b (up16 (m .p)) in
-      isCompleted (subst IsDid (sym (due-answer due o (opcode-first pages (m .p) b f h))) (obeyed-listed (reachedOf m) key pages o i n e))
+      isCompleted (subst IsDid (sym (due-answer due o (opcode-first pages (m .p) b f h))) (obeyed-listed (reachedOf m) inputs pages o i n e))
   case-first due b f h Unlisted e = isFirst b (record { due = due; first = f; other = h; unlisted = e })
 
   case-second : Due m → firstByte m pages ≡ 0xFD → (b : ℕ) → secondByte m pages ≡ b → (d : Decoded) → decodedFd b ≡ d → Case
   case-second due h b f (Listed i n) e =
       let o : Fetched = fetched true b (up16 (up16 (m .p))) in
-      isCompleted (subst IsDid (sym (due-answer due o (opcode-second pages (m .p) b h f))) (obeyed-listed (reachedOf m) key pages o i n e))
+      isCompleted (subst IsDid (sym (due-answer due o (opcode-second pages (m .p) b h f))) (obeyed-listed (reachedOf m) inputs pages o i n e))
   case-second due h b f Unlisted e = isSecond b (record { due = due; first = h; second = f; unlisted = e })
 
   case-due : Due m → Case
@@ -108,14 +109,14 @@ module _ (m : Lh5801) (key : ℕ) (pages : Pages) where
   case-of = go (m .bf) refl (m .ir0) refl (accepted m) refl (m .«is_halted») refl
     where
       go : (b : Bool) → m .bf ≡ b → (z : Bool) → m .ir0 ≡ z → (n : Bool) → accepted m ≡ n → (h : Bool) → m .«is_halted» ≡ h → Case
-      go false b z e n f h g = isCompleted (always-exec IsDid (stepOf m key) (off-step m key b) pages)
-      go true b true e n f h g = isCompleted (always-exec IsDid (stepOf m key) (frozen-step m key b e) pages)
-      go true b false e true f h g = isCompleted (always-exec IsDid (stepOf m key) (accepted-step m key b e f) pages)
+      go false b z e n f h g = isCompleted (always-exec IsDid (stepOf m inputs) (off-step m inputs b) pages)
+      go true b true e n f h g = isCompleted (always-exec IsDid (stepOf m inputs) (frozen-step m inputs b e) pages)
+      go true b false e true f h g = isCompleted (always-exec IsDid (stepOf m inputs) (accepted-step m inputs b e f) pages)
       go true b false e false f true g = isHalted (record { on = b; halted = g; free = e; none = f })
       go true b false e false f false g = case-due (record { on = b; free = e; none = f; running = g })
 
   -- 7
-  pub stops-7 : (exec (stepOf m key) pages .answer ≡ stopped Halted) ↔ HaltedStop m
+  pub stops-7 : (exec (stepOf m inputs) pages .answer ≡ stopped Halted) ↔ HaltedStop m
   unfolding answer
   stops-7 = (λ e. go case-of e, halted-answer)
     where
@@ -126,7 +127,7 @@ module _ (m : Lh5801) (key : ℕ) (pages : Pages) where
       go (isCompleted d) e = absurd (subst IsDid e d)
 
   -- 5, with the byte
-  pub stops-5 : (b : ℕ) → (exec (stepOf m key) pages .answer ≡ stopped (UnlistedByte b)) ↔ FirstUnlisted m pages b
+  pub stops-5 : (b : ℕ) → (exec (stepOf m inputs) pages .answer ≡ stopped (UnlistedByte b)) ↔ FirstUnlisted m pages b
   unfolding answer
   stops-5 b = (λ e. go case-of e, first-answer b)
     where
@@ -137,7 +138,7 @@ module _ (m : Lh5801) (key : ℕ) (pages : Pages) where
       go (isCompleted d) e = absurd (subst IsDid e d)
 
   -- 6, with the byte
-  pub stops-6 : (b : ℕ) → (exec (stepOf m key) pages .answer ≡ stopped (UnlistedFd b)) ↔ SecondUnlisted m pages b
+  pub stops-6 : (b : ℕ) → (exec (stepOf m inputs) pages .answer ≡ stopped (UnlistedFd b)) ↔ SecondUnlisted m pages b
   unfolding answer
   stops-6 b = (λ e. go case-of e, second-answer b)
     where
@@ -155,7 +156,7 @@ module _ (m : Lh5801) (key : ℕ) (pages : Pages) where
   completes-did (stopped s) h = absurd h
 
   -- 0: the step is completed exactly where no condition of a stop holds
-  pub completes : Completes (exec (stepOf m key) pages .answer) ↔ NoStop m pages
+  pub completes : Completes (exec (stepOf m inputs) pages .answer) ↔ NoStop m pages
   unfolding answer
   completes = (
     λ c. record {

@@ -5,6 +5,7 @@ use mathlib.Core.List.{[]}
 use Prim.Native.Nat.{ℕ}
 use lib.Dec.{eqb}
 use Rattle.arithmetic.specs.declared.record.Lh5801.{Lh5801}
+use Rattle.execution.specs.declared.Inputs.{Inputs}
 use Rattle.arithmetic.specs.Record.{with-p, with-ir1, with-ir2}
 use Rattle.pages.specs.Pages.{Pages, at, store}
 use Rattle.pages.specs.Prog.{Prog, done, get, put, _>>=_, read, after, exec}
@@ -61,32 +62,32 @@ unfolding fetchOf readopOf read _>>=_
 reads-fetch p = λ b. cond-both (Reads {A = Fetched}) (eqb b 0xFD) _ _ (λ c. tt) tt
 
 -- a listed byte and an interrupt's entry end in a completed step
-pub did-listed : (m : Lh5801) (key : ℕ) (o : Fetched) (i : Instruction) (n : ℕ) → Always IsDid (obeyOf m key o (Listed i n))
+pub did-listed : (m : Lh5801) (inputs : Inputs) (o : Fetched) (i : Instruction) (n : ℕ) → Always IsDid (obeyOf m inputs o (Listed i n))
 unfolding obeyOf
-did-listed m key o i n = always-then IsDid (executeOf (with-p m (o .p)) key i) _ (λ k. tt)
+did-listed m inputs o i n = always-then IsDid (executeOf (with-p m (o .p)) inputs i) _ (λ k. tt)
 
 pub did-entered : (m : Lh5801) (vector : ℕ) → Always IsDid (enteredOf m vector)
 unfolding enteredOf
 did-entered m vector = always-then IsDid (entryOf m vector) _ (λ k. tt)
 
-clean-obeyed : (m : Lh5801) (key : ℕ) (o : Fetched) (d : Decoded) → Clean (obeyOf m key o d)
+clean-obeyed : (m : Lh5801) (inputs : Inputs) (o : Fetched) (d : Decoded) → Clean (obeyOf m inputs o d)
 unfolding obeyOf
-clean-obeyed m key o (Listed i n) = clean-did (obeyOf m key o (Listed i n)) (did-listed m key o i n)
-clean-obeyed m key o Unlisted = tt
+clean-obeyed m inputs o (Listed i n) = clean-did (obeyOf m inputs o (Listed i n)) (did-listed m inputs o i n)
+clean-obeyed m inputs o Unlisted = tt
 
-clean-instruction : (m : Lh5801) (key : ℕ) → Clean (instructionOf m key)
+clean-instruction : (m : Lh5801) (inputs : Inputs) → Clean (instructionOf m inputs)
 unfolding instructionOf
-clean-instruction m key = clean-after (fetchOf (m .p)) _ (reads-fetch (m .p)) (λ o. clean-obeyed m key o (decodedBy (o .fd) (o .byte)))
+clean-instruction m inputs = clean-after (fetchOf (m .p)) _ (reads-fetch (m .p)) (λ o. clean-obeyed m inputs o (decodedBy (o .fd) (o .byte)))
 
-clean-powered : (m : Lh5801) (key : ℕ) → Clean (poweredOf m key)
-clean-powered m key =
-    powered-ways Clean m key tt (clean-did (enteredOf (with-ir1 m false) 0xFFFA) (did-entered _ _))
+clean-powered : (m : Lh5801) (inputs : Inputs) → Clean (poweredOf m inputs)
+clean-powered m inputs =
+    powered-ways Clean m inputs tt (clean-did (enteredOf (with-ir1 m false) 0xFFFA) (did-entered _ _))
     (clean-did (enteredOf (with-ir2 m false) 0xFFF8) (did-entered _ _))
     tt
-    (clean-instruction m key)
+    (clean-instruction m inputs)
 
 -- a step that stops has made no write, and the pages are as before it
-pub stop-no-write : (m : Lh5801) (key : ℕ) (pages : Pages) (s : Stop) → exec (stepOf m key) pages .answer ≡ stopped s
-    → (writes (exec (stepOf m key) pages .accesses) ≡ []) × (exec (stepOf m key) pages .pages ≡ pages)
-stop-no-write m key pages s e =
-    clean-exec (stepOf m key) (step-ways Clean m key tt (clean-powered (moved m) key) (clean-powered m key)) pages s e
+pub stop-no-write : (m : Lh5801) (inputs : Inputs) (pages : Pages) (s : Stop) → exec (stepOf m inputs) pages .answer ≡ stopped s
+    → (writes (exec (stepOf m inputs) pages .accesses) ≡ []) × (exec (stepOf m inputs) pages .pages ≡ pages)
+stop-no-write m inputs pages s e =
+    clean-exec (stepOf m inputs) (step-ways Clean m inputs tt (clean-powered (moved m) inputs) (clean-powered m inputs)) pages s e

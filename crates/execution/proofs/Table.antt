@@ -5,7 +5,8 @@ use mathlib.Core.Bool.{Bool, true}
 use mathlib.Core.List.{List, [], _∷_}
 use mathlib.Core.Path.{_≡_, refl, sym, ap, _∙_}
 use lib.Dec.{T, leb, leb→le, ltb, ltb→lt}
-use lib.ListN.{getD, length, replicate, List·getD-eq-default}
+use lib.ListN.{getD, length, take, drop, replicate, List·getD-eq-default}
+use lib.Seq.{getD-take, getD-drop}
 use Rattle.arithmetic.proofs.Rows.{Rest, clear, default}
 use Rattle.arithmetic.proofs.Compute.{both, both-left, both-right}
 use Rattle.execution.specs.declared.instructions.Decoded.{Decoded}
@@ -61,6 +62,27 @@ pub table : (rows : List (List Decoded)) → T (short rows) → length rows ≤ 
 table rows s f byte h =
     let e : byte ≡ 16 * (0 + byte / 16) + byte % 16 = omega arith in
     ap (λ (b : ℕ). chained rows 0 b) e ∙ found rows 0 (byte / 16) (byte % 16) s (omega arith) (omega arith) (omega arith)
+
+-- rows that begin with row i
+from-row : (rows : List (List Decoded)) (i : ℕ) → T (short rows) → i + length rows ≤ 16 → (byte : ℕ) → 16 * i ≤ byte → byte < 256
+    → chained rows i byte ≡ getD (getD rows (byte / 16 - i) []) (byte % 16) Unlisted
+from-row rows i s f byte l h =
+    let e : byte ≡ 16 * (i + (byte / 16 - i)) + byte % 16 = omega arith in
+    ap (λ (b : ℕ). chained rows i b) e ∙ found rows i (byte / 16 - i) (byte % 16) s f (omega arith) (omega arith)
+
+-- the first n rows, and those after them
+pub first-rows : (rows : List (List Decoded)) (n : ℕ) → T (short (take n rows)) → length (take n rows) ≤ 16 → (byte : ℕ) → byte < 16 * n → byte < 256
+    → chained (take n rows) 0 byte ≡ getD (getD rows (byte / 16) []) (byte % 16) Unlisted
+first-rows rows n s f byte l h =
+    table (take n rows) s f byte h
+    ∙ ap (λ (row : List Decoded). getD row (byte % 16) Unlisted) (getD-take n rows (byte / 16) [] (omega arith))
+
+pub rows-after : (rows : List (List Decoded)) (n : ℕ) → T (short (drop n rows)) → n + length (drop n rows) ≤ 16 → (byte : ℕ) → 16 * n ≤ byte → byte < 256
+    → chained (drop n rows) n byte ≡ getD (getD rows (byte / 16) []) (byte % 16) Unlisted
+rows-after rows n s f byte l h =
+    let e : n + (byte / 16 - n) ≡ byte / 16 = omega arith in
+    from-row (drop n rows) n s f byte l h
+    ∙ ap (λ (row : List Decoded). getD row (byte % 16) Unlisted) (getD-drop n rows (byte / 16 - n) [] ∙ ap (λ (j : ℕ). getD rows j []) e)
 
 -- the keys of row i, by its columns
 abbrev pub keys : ℕ → List ℕ → List ℕ

@@ -3,6 +3,7 @@ use mathlib.Core.Path.{_≡_, refl, sym, ap, subst, _∙_}
 use mathlib.Core.Bool.{Bool, true, false, not, _&&_, _||_, cond, true≢false, false≢true}
 use Prim.Native.Nat.{ℕ}
 use Rattle.arithmetic.specs.declared.record.Lh5801.{Lh5801}
+use Rattle.execution.specs.declared.Inputs.{Inputs}
 use Rattle.arithmetic.specs.Record.{with-ir1, with-ir2, with-is-timer-reached}
 use Rattle.arithmetic.specs.Flags.{IE, hasFlag}
 use Rattle.pages.specs.Prog.{Prog, done}
@@ -96,13 +97,13 @@ module _ (m : Lh5801) where
       opened (m .bf) (m .ir0) _ _ b z
       ∙ rw (reached-ir1, reached-ir2, reached-t) (either-line (hasFlag (m .t) IE) (m .ir1) (m .«is_timer_reached») (m .ir2))
 
-  module _ (key : ℕ) where
+  module _ (inputs : Inputs) where
     -- with BF clear, and with IR0 set, a step is completed
-    pub off-step : m .bf ≡ false → Always IsDid (stepOf m key)
+    pub off-step : m .bf ≡ false → Always IsDid (stepOf m inputs)
     unfolding stepOf
     off-step b = subst (Always IsDid) (sym (cond-false (m .bf) _ _ b)) tt
 
-    pub frozen-step : m .bf ≡ true → m .ir0 ≡ true → Always IsDid (stepOf m key)
+    pub frozen-step : m .bf ≡ true → m .ir0 ≡ true → Always IsDid (stepOf m inputs)
     unfolding stepOf poweredOf
     frozen-step b z = subst (Always IsDid) (sym (cond-true (m .bf) _ _ b ∙ cond-true (reachedOf m .ir0) _ _ (reached-ir0 ∙ z))) tt
 
@@ -111,23 +112,23 @@ module _ (m : Lh5801) where
     tested i j =
         cond i (enteredOf (with-ir1 (reachedOf m) false) 0xFFFA)
         (cond j (enteredOf (with-ir2 (reachedOf m) false) 0xFFF8)
-        (cond (reachedOf m .«is_halted») (done (stopped Halted)) (instructionOf (reachedOf m) key)))
+        (cond (reachedOf m .«is_halted») (done (stopped Halted)) (instructionOf (reachedOf m) inputs)))
 
-    tested-step : m .bf ≡ true → m .ir0 ≡ false → stepOf m key ≡ tested one two
+    tested-step : m .bf ≡ true → m .ir0 ≡ false → stepOf m inputs ≡ tested one two
     unfolding stepOf poweredOf one two tested
     tested-step b z = cond-true (m .bf) _ _ b ∙ cond-false (reachedOf m .ir0) _ _ (reached-ir0 ∙ z)
 
     -- no interrupt is accepted: only halted is left to test
     pub unheld : m .bf ≡ true → m .ir0 ≡ false → accepted m ≡ false
-        → stepOf m key ≡ cond (m .«is_halted») (done (stopped Halted)) (instructionOf (reachedOf m) key)
+        → stepOf m inputs ≡ cond (m .«is_halted») (done (stopped Halted)) (instructionOf (reachedOf m) inputs)
     unfolding tested
     unheld b z n =
         let e : one || two ≡ false = sym (accepted-by b z) ∙ n in
         tested-step b z ∙ cond-false one _ _ (none-left one two e) ∙ cond-false two _ _ (none-right one two e)
-        ∙ ap (λ h. cond h (done (stopped Halted)) (instructionOf (reachedOf m) key)) reached-halted
+        ∙ ap (λ h. cond h (done (stopped Halted)) (instructionOf (reachedOf m) inputs)) reached-halted
 
     -- an accepted interrupt is entered
-    pub accepted-step : m .bf ≡ true → m .ir0 ≡ false → accepted m ≡ true → Always IsDid (stepOf m key)
+    pub accepted-step : m .bf ≡ true → m .ir0 ≡ false → accepted m ≡ true → Always IsDid (stepOf m inputs)
     unfolding tested
     accepted-step b z n = subst (Always IsDid) (sym (tested-step b z)) (go one two (sym (accepted-by b z) ∙ n))
       where

@@ -3,6 +3,7 @@ use Prim.Native.Nat.{ℕ}
 use mathlib.Core.Bool.{true, false, _&&_}
 use mathlib.Core.Path.{_≡_}
 use Rattle.arithmetic.specs.declared.record.Lh5801.{Lh5801}
+use Rattle.execution.specs.declared.Inputs.{Inputs}
 use Rattle.arithmetic.specs.Record.{with-ir1, with-ir2, with-is-timer-reached}
 use Rattle.arithmetic.specs.Flags.{IE, hasFlag}
 use Rattle.pages.specs.Pages.{Pages}
@@ -27,22 +28,22 @@ did-exec P p h pages k n kind e = rw e at (always-exec (Did P) p h pages)
 abbrev pub moved : Lh5801 → Lh5801
 moved m = with-is-timer-reached (with-ir1 m true) false
 
-module _ (R : Prog StepEnd → Type 0) (m : Lh5801) (key : ℕ) where
+module _ (R : Prog StepEnd → Type 0) (m : Lh5801) (inputs : Inputs) where
   pub powered-ways : R (done (did (timerPartOf m) 0 frozen))
       → R (enteredOf (with-ir1 m false) 0xFFFA)
       → R (enteredOf (with-ir2 m false) 0xFFF8)
       → R (done (stopped Halted))
-      → R (instructionOf m key)
-      → R (poweredOf m key)
+      → R (instructionOf m inputs)
+      → R (poweredOf m inputs)
   unfolding poweredOf
   powered-ways f one two h i =
       cond-both R (m .ir0) (done (did (timerPartOf m) 0 frozen)) _ f
       (cond-both R (m .ir1 && hasFlag (m .t) IE) (enteredOf (with-ir1 m false) 0xFFFA) _ one
       (cond-both R (m .ir2 && hasFlag (m .t) IE) (enteredOf (with-ir2 m false) 0xFFF8) _ two
-      (cond-both R (m .«is_halted») (done (stopped Halted)) (instructionOf m key) h i)))
+      (cond-both R (m .«is_halted») (done (stopped Halted)) (instructionOf m inputs) h i)))
 
-  pub step-ways : R (done (did (addStateOf m 8) 8 off)) → R (poweredOf (moved m) key) → R (poweredOf m key) → R (stepOf m key)
+  pub step-ways : R (done (did (addStateOf m 8) 8 off)) → R (poweredOf (moved m) inputs) → R (poweredOf m inputs) → R (stepOf m inputs)
   unfolding stepOf reachedOf
   step-ways o h k =
-      cond-both R (m .bf) (poweredOf (reachedOf m) key) _
-      (cond-both (λ r. R (poweredOf r key)) (m .«is_timer_reached») (moved m) m h k) o
+      cond-both R (m .bf) (poweredOf (reachedOf m) inputs) _
+      (cond-both (λ r. R (poweredOf r inputs)) (m .«is_timer_reached») (moved m) m h k) o

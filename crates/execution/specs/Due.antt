@@ -1,6 +1,5 @@
 -- When an instruction is due, and after which instructions one is due again: what the loop over instructions goes by.
-use Prim.Native.Nat.{ℕ}
-use mathlib.Core.Bool.{Bool, true, false, not, _&&_, _||_}
+use mathlib.Core.Bool.{Bool, true, false, not, _&&_, _||_, cond}
 use mathlib.Core.Path.{_≡_}
 use Rattle.arithmetic.specs.declared.record.Lh5801.{Lh5801}
 use Rattle.arithmetic.specs.Flags.{IE, hasFlag}
@@ -10,13 +9,11 @@ use Rattle.execution.specs.declared.instructions.Signal.{Signal}
 use Rattle.execution.specs.declared.instructions.Signal.the-variants.{Pu, Pv, Disp, Carry as CarryFlag, InterruptEnable}
 use Rattle.execution.specs.declared.instructions.Instruction.{Instruction}
 use Rattle.execution.specs.declared.instructions.Instruction.the-variants.{Alu, Sta, Memory, Bii, Drr, Drl, Load, Compare, Inc, Dec, IncWord, DecWord, Sin, Sde, Lin, Lde, Branch, Lop, VectorIf, Vector, Jmp, Sjp, Rtn, Rti, LoadS, Tin, Cin, Accumulator as OnA, Signal as Sets, PopWord, PushWord, PopA, PushA, ToX, FromX, DropWord, Adr, Off, Hlt, Cdv, Nop}
-use Rattle.execution.specs.declared.Outcome.{Outcome}
-use Rattle.execution.specs.declared.Outcome.the-variants.{Completed, Stopped}
-use Rattle.pages.specs.Prog.{mapped}
-use Rattle.pages.specs.Contract.{Page, Changes}
-use Rattle.execution.specs.Step.{outcomeOf, stepOf}
+use Rattle.execution.specs.declared.instructions.Decoded.{Decoded}
+use Rattle.execution.specs.declared.instructions.Decoded.the-variants.{Listed, Unlisted}
 use Rattle.execution.specs.declared.Executed.{Executed}
-use Rattle.execution.specs.declared.Executed.the-variants.{Again, Completed as CompletedThere, Stopped as StoppedThere}
+use Rattle.execution.specs.declared.Executed.the-variants.{Again, Completed, Stopped}
+use Rattle.execution.specs.Step.{Kind, off, frozen, entry, instruction, StepEnd, did, stopped, decodedBy}
 
 -- BF set, and neither IR0, nor with IE a request or timer reached, nor halted
 abbrev pub dueBy : Bool → Bool → Bool → Bool → Bool → Bool → Bool → Bool
@@ -59,10 +56,10 @@ settledOf (Alu o place) = true
 settledOf (Sta place) = true
 settledOf (Memory o place) = true
 settledOf (Bii place) = true
-settledOf (Drr place) = true
-settledOf (Drl place) = true
-settledOf (Load h place) = true
-settledOf (Compare h place) = true
+settledOf (Drr page) = true
+settledOf (Drl page) = true
+settledOf (Load h) = true
+settledOf (Compare h) = true
 settledOf (Inc h) = true
 settledOf (Dec h) = true
 settledOf (IncWord r) = true
@@ -71,7 +68,7 @@ settledOf (Sin r) = true
 settledOf (Sde r) = true
 settledOf (Lin r) = true
 settledOf (Lde r) = true
-settledOf (Branch c forward) = true
+settledOf (Branch forward c) = true
 settledOf Lop = true
 settledOf (VectorIf c) = true
 settledOf (Vector nr) = true
@@ -97,18 +94,24 @@ settledOf Hlt = false
 settledOf Cdv = true
 settledOf Nop = true
 
--- what an instruction's step answers, without the word that an instruction is due again
-abbrev pub outcomeIn : Executed → Outcome
-outcomeIn (Again m) = Completed m
-outcomeIn (CompletedThere m) = Completed m
-outcomeIn (StoppedThere s) = Stopped s
+-- a byte that decodes to such an instruction
+abbrev pub settledBy : Decoded → Bool
+settledBy (Listed i n) = settledOf i
+settledBy Unlisted = false
 
--- and that word
+-- how the step of a due instruction ends: after a settled instruction that did not reach 1FF an instruction is due again
+abbrev pub executedAs : Kind → Lh5801 → Executed
+executedAs off m = Completed m
+executedAs frozen m = Completed m
+executedAs (entry vector) m = Completed m
+executedAs (instruction fd byte) m = cond (settledBy (decodedBy fd byte) && not (m .«is_timer_reached»)) (Again m) (Completed m)
+
+abbrev pub executedOf : StepEnd → Executed
+executedOf (did m states kind) = executedAs kind m
+executedOf (stopped s) = Stopped s
+
+-- what it says where an instruction is due again
 abbrev pub DueAgain : Executed → Type 0
 DueAgain (Again m) = Ready m
-DueAgain (CompletedThere m) = Unit {0}
-DueAgain (StoppedThere s) = Unit {0}
-
--- what a step without an instruction answers: the same with any keyboard byte
-abbrev pub Waits : Lh5801 → Page → Page → Outcome → Type 0
-Waits m page0 page1 r = (key : ℕ) → Changes (mapped outcomeOf (stepOf m key)) page0 page1 r
+DueAgain (Completed m) = Unit {0}
+DueAgain (Stopped s) = Unit {0}

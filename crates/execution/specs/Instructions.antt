@@ -5,6 +5,7 @@ use mathlib.Core.Bool.{Bool, true, false, not, cond}
 use lib.Dec.{eqb}
 use lib.Bits.{bitAnd, bitOr}
 use Rattle.arithmetic.specs.declared.record.Lh5801.{Lh5801}
+use Rattle.execution.specs.declared.Inputs.{Inputs}
 use Rattle.arithmetic.specs.declared.Sum.{Sum}
 use Rattle.arithmetic.specs.declared.Moved.{Moved}
 use Rattle.arithmetic.specs.Record.{with-a, with-t, with-x, with-y, with-u, with-s, with-p, with-is-halted, with-pu, with-pv, with-bf, with-disp, with-tm, with-step-previous-state}
@@ -18,6 +19,7 @@ use Rattle.pages.specs.Stack.{up16, down16, readopOf, readopWordOf, mem16Of, pu
 use Rattle.pages.specs.Timer.{addStateOf}
 use Rattle.execution.specs.declared.places.Register.{Register}
 use Rattle.execution.specs.declared.places.Half.{Half}
+use Rattle.execution.specs.declared.places.Page.{Page}
 use Rattle.execution.specs.declared.places.Place.{Place}
 use Rattle.execution.specs.declared.places.Place.the-variants.{Half as HalfAt, Pointer, Fixed, InCode}
 use Rattle.execution.specs.declared.instructions.Operation.{Operation}
@@ -34,7 +36,7 @@ use Rattle.execution.specs.declared.instructions.Signal.{Signal}
 use Rattle.execution.specs.declared.instructions.Signal.the-variants.{Pu, Pv, Disp, Carry as CarryFlag, InterruptEnable}
 use Rattle.execution.specs.declared.instructions.Instruction.{Instruction}
 use Rattle.execution.specs.declared.instructions.Instruction.the-variants.{Alu, Sta, Memory, Bii, Drr, Drl, Load, Compare, Inc, Dec, IncWord, DecWord, Sin, Sde, Lin, Lde, Branch, Lop, VectorIf, Vector, Jmp, Sjp, Rtn, Rti, LoadS, Tin, Cin, Accumulator as OnA, Signal as Sets, PopWord, PushWord, PopA, PushA, ToX, FromX, DropWord, Adr, Off, Hlt, Cdv, Nop}
-use Rattle.execution.specs.Places.{wordIn, withWord, halfIn, withHalf, locateOf, operandOf}
+use Rattle.execution.specs.Places.{wordIn, withWord, halfIn, withHalf, addressOf, locateOf, operandOf}
 
 -- A with an operand: SBC ADC LDA CPA AND ORA DCS DCA EOR BIT
 abbrev pub operated : Lh5801 → Operation → ℕ → Lh5801
@@ -63,9 +65,9 @@ storeOf m place = do
 
 unfoldable pub staOf : Lh5801 → Place → Prog Lh5801
 staOf m (HalfAt h) = done (withHalf m h (m .a))
-staOf m (Pointer r page) = storeOf m (Pointer r page)
+staOf m (Pointer page r) = storeOf m (Pointer page r)
 staOf m (Fixed page) = storeOf m (Fixed page)
-staOf m InCode = done m
+staOf m InCode = storeOf m InCode
 
 -- a memory byte with an immediate, and T: ANI, ORI and ADI
 abbrev pub changedOf : ℕ → Change → ℕ → ℕ → Sum
@@ -90,30 +92,28 @@ biiOf m place = do
   imm ← readopOf (l .p)
   done (bitTestOf (with-p m (imm .p)) mem (imm .value))
 
--- DRR and DRL: the byte is read, the moved one written, and A is the byte that was read
-unfoldable pub drrOf : Lh5801 → Place → Prog Lh5801
-drrOf m place = do
-  l ← locateOf m place
-  b ← read (l .addr)
-  _ ← write (l .addr) (drrMoved (m .a) b .byte)
+-- DRR and DRL: the byte at X is read, the moved one written there, and A is the byte that was read
+unfoldable pub drrOf : Lh5801 → Page → Prog Lh5801
+drrOf m page = do
+  b ← read (addressOf (m .x) page)
+  _ ← write (addressOf (m .x) page) (drrMoved (m .a) b .byte)
   done (with-a m (drrMoved (m .a) b .a))
 
-unfoldable pub drlOf : Lh5801 → Place → Prog Lh5801
-drlOf m place = do
-  l ← locateOf m place
-  b ← read (l .addr)
-  _ ← write (l .addr) (drlMoved (m .a) b .byte)
+unfoldable pub drlOf : Lh5801 → Page → Prog Lh5801
+drlOf m page = do
+  b ← read (addressOf (m .x) page)
+  _ ← write (addressOf (m .x) page) (drlMoved (m .a) b .byte)
   done (with-a m (drlMoved (m .a) b .a))
 
--- loads and compares of halves
-unfoldable pub loadOf : Lh5801 → Half → Place → Prog Lh5801
-loadOf m h place = do
-  f ← operandOf m place
+-- LDI and CPI: a half with the byte in the code
+unfoldable pub loadOf : Lh5801 → Half → Prog Lh5801
+loadOf m h = do
+  f ← readopOf (m .p)
   done (withHalf (with-p m (f .p)) h (f .value))
 
-unfoldable pub compareOf : Lh5801 → Half → Place → Prog Lh5801
-compareOf m h place = do
-  f ← operandOf m place
+unfoldable pub compareOf : Lh5801 → Half → Prog Lh5801
+compareOf m h = do
+  f ← readopOf (m .p)
   done (cpaOf (with-p m (f .p)) (halfIn m h) (f .value))
 
 -- INC and DEC of a half set C, H, Z and V; of a pair they set none
@@ -300,45 +300,45 @@ unfoldable pub dropWordOf : Lh5801 → Lh5801
 dropWordOf m = with-s m ((m .s + 2) % 0x10000)
 
 -- what an instruction does; P stands after the opcode
-unfoldable pub executeOf : Lh5801 → ℕ → Instruction → Prog Lh5801
-executeOf m key (Alu o place) = aluOf m o place
-executeOf m key (Sta place) = staOf m place
-executeOf m key (Memory o place) = memoryOf m o place
-executeOf m key (Bii place) = biiOf m place
-executeOf m key (Drr place) = drrOf m place
-executeOf m key (Drl place) = drlOf m place
-executeOf m key (Load h place) = loadOf m h place
-executeOf m key (Compare h place) = compareOf m h place
-executeOf m key (Inc h) = done (incHalfOf m h)
-executeOf m key (Dec h) = done (decHalfOf m h)
-executeOf m key (IncWord r) = done (incWordOf m r)
-executeOf m key (DecWord r) = done (decWordOf m r)
-executeOf m key (Sin r) = sinOf m r
-executeOf m key (Sde r) = sdeOf m r
-executeOf m key (Lin r) = linOf m r
-executeOf m key (Lde r) = ldeOf m r
-executeOf m key (Branch c forward) = branchOf m c forward
-executeOf m key Lop = lopOf m
-executeOf m key (VectorIf c) = vectorIfOf m c
-executeOf m key (Vector nr) = vectorOf m nr
-executeOf m key Jmp = jmpOf m
-executeOf m key Sjp = sjpOf m
-executeOf m key Rtn = rtnOf m
-executeOf m key Rti = rtiOf m
-executeOf m key LoadS = loadSOf m
-executeOf m key Tin = tinOf m
-executeOf m key Cin = cinOf m
-executeOf m key (OnA o) = done (onAOf m o key)
-executeOf m key (Sets s v) = done (signalOf m s v)
-executeOf m key (PopWord r) = popToOf m r
-executeOf m key (PushWord r) = pushFromOf m r
-executeOf m key PopA = popOf m
-executeOf m key PushA = pushOf m (m .a)
-executeOf m key (ToX w) = done (toXOf m w)
-executeOf m key (FromX w) = done (fromXOf m w)
-executeOf m key DropWord = done (dropWordOf m)
-executeOf m key (Adr r) = done (adrInOf m r)
-executeOf m key Off = done (with-bf m false)
-executeOf m key Hlt = done (with-is-halted m true)
-executeOf m key Cdv = done (cdvOf m)
-executeOf m key Nop = done m
+unfoldable pub executeOf : Lh5801 → Inputs → Instruction → Prog Lh5801
+executeOf m inputs (Alu o place) = aluOf m o place
+executeOf m inputs (Sta place) = staOf m place
+executeOf m inputs (Memory o place) = memoryOf m o place
+executeOf m inputs (Bii place) = biiOf m place
+executeOf m inputs (Drr page) = drrOf m page
+executeOf m inputs (Drl page) = drlOf m page
+executeOf m inputs (Load h) = loadOf m h
+executeOf m inputs (Compare h) = compareOf m h
+executeOf m inputs (Inc h) = done (incHalfOf m h)
+executeOf m inputs (Dec h) = done (decHalfOf m h)
+executeOf m inputs (IncWord r) = done (incWordOf m r)
+executeOf m inputs (DecWord r) = done (decWordOf m r)
+executeOf m inputs (Sin r) = sinOf m r
+executeOf m inputs (Sde r) = sdeOf m r
+executeOf m inputs (Lin r) = linOf m r
+executeOf m inputs (Lde r) = ldeOf m r
+executeOf m inputs (Branch forward c) = branchOf m c forward
+executeOf m inputs Lop = lopOf m
+executeOf m inputs (VectorIf c) = vectorIfOf m c
+executeOf m inputs (Vector nr) = vectorOf m nr
+executeOf m inputs Jmp = jmpOf m
+executeOf m inputs Sjp = sjpOf m
+executeOf m inputs Rtn = rtnOf m
+executeOf m inputs Rti = rtiOf m
+executeOf m inputs LoadS = loadSOf m
+executeOf m inputs Tin = tinOf m
+executeOf m inputs Cin = cinOf m
+executeOf m inputs (OnA o) = done (onAOf m o (inputs .keyboard))
+executeOf m inputs (Sets s v) = done (signalOf m s v)
+executeOf m inputs (PopWord r) = popToOf m r
+executeOf m inputs (PushWord r) = pushFromOf m r
+executeOf m inputs PopA = popOf m
+executeOf m inputs PushA = pushOf m (m .a)
+executeOf m inputs (ToX w) = done (toXOf m w)
+executeOf m inputs (FromX w) = done (fromXOf m w)
+executeOf m inputs DropWord = done (dropWordOf m)
+executeOf m inputs (Adr r) = done (adrInOf m r)
+executeOf m inputs Off = done (with-bf m false)
+executeOf m inputs Hlt = done (with-is-halted m true)
+executeOf m inputs Cdv = done (cdvOf m)
+executeOf m inputs Nop = done m

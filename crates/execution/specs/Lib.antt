@@ -1,3 +1,4 @@
+pub mod Inputs
 pub mod Places
 pub mod Operands
 pub mod Instructions

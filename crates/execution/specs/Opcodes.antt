@@ -1,7 +1,7 @@
 -- The opcodes of the first page, from the arms of `instruction` in lh5801.rs and document 01, "Opcodes": a row for each high digit, and in it
 -- 16 entries, the column behind each. An entry is the instruction with its operand place and its states: the number that the arm adds,
 -- without what a taken branch, LOP or a vector adds (`addedWhenTaken` in Listed.antt). —— is an unlisted byte.
--- Places: In (Low X) is XL; Pointer X Me0 is the byte of page 0 that X points to; Fixed Me0 is the byte of page 0 at the word in the code;
+-- Places: In (Low X) is XL; Pointer Me0 X is the byte of page 0 that X points to; Fixed Me0 is the byte of page 0 at the word in the code;
 -- InCode is the byte in the code; Missing is the register that the LH5801 does not have.
 use Prim.Native.Nat.{ℕ, _/_, _%_}
 use mathlib.Core.Bool.{Bool, true, false}
@@ -25,21 +25,21 @@ use Rattle.execution.specs.declared.instructions.Decoded.the-variants.{L
 abbrev pub row0 : Register → List Decoded
 row0 r =
     Listed (Alu Sbc (In (Low r))) 6 ∷  -- 0
-    Listed (Alu Sbc (Pointer r Me0)) 7 ∷  -- 1
+    Listed (Alu Sbc (Pointer Me0 r)) 7 ∷  -- 1
     Listed (Alu Adc (In (Low r))) 6 ∷  -- 2
-    Listed (Alu Adc (Pointer r Me0)) 7 ∷  -- 3
+    Listed (Alu Adc (Pointer Me0 r)) 7 ∷  -- 3
     Listed (Alu Lda (In (Low r))) 5 ∷  -- 4
-    Listed (Alu Lda (Pointer r Me0)) 6 ∷  -- 5
+    Listed (Alu Lda (Pointer Me0 r)) 6 ∷  -- 5
     Listed (Alu Cpa (In (Low r))) 6 ∷  -- 6
-    Listed (Alu Cpa (Pointer r Me0)) 7 ∷  -- 7
+    Listed (Alu Cpa (Pointer Me0 r)) 7 ∷  -- 7
     Listed (Sta (In (High r))) 5 ∷  -- 8
-    Listed (Alu And (Pointer r Me0)) 7 ∷  -- 9
+    Listed (Alu And (Pointer Me0 r)) 7 ∷  -- 9
     Listed (Sta (In (Low r))) 5 ∷  -- A
-    Listed (Alu Ora (Pointer r Me0)) 7 ∷  -- B
-    Listed (Alu Dcs (Pointer r Me0)) 13 ∷  -- C
-    Listed (Alu Eor (Pointer r Me0)) 7 ∷  -- D
-    Listed (Sta (Pointer r Me0)) 6 ∷  -- E
-    Listed (Alu Bit (Pointer r Me0)) 7 ∷  -- F
+    Listed (Alu Ora (Pointer Me0 r)) 7 ∷  -- B
+    Listed (Alu Dcs (Pointer Me0 r)) 13 ∷  -- C
+    Listed (Alu Eor (Pointer Me0 r)) 7 ∷  -- D
+    Listed (Sta (Pointer Me0 r)) 6 ∷  -- E
+    Listed (Alu Bit (Pointer Me0 r)) 7 ∷  -- F
     []
 
 -- Row 3: A with the register that the LH5801 does not have.
@@ -68,14 +68,14 @@ row4 r =
     Listed (Lin r) 6 ∷  -- 5
     Listed (DecWord r) 5 ∷  -- 6
     Listed (Lde r) 6 ∷  -- 7
-    Listed (Load (High r) InCode) 6 ∷  -- 8
-    Listed (Memory Ani (Pointer r Me0)) 13 ∷  -- 9
-    Listed (Load (Low r) InCode) 6 ∷  -- A
-    Listed (Memory Ori (Pointer r Me0)) 13 ∷  -- B
-    Listed (Compare (High r) InCode) 7 ∷  -- C
-    Listed (Bii (Pointer r Me0)) 10 ∷  -- D
-    Listed (Compare (Low r) InCode) 7 ∷  -- E
-    Listed (Memory Adi (Pointer r Me0)) 13 ∷  -- F
+    Listed (Load (High r)) 6 ∷  -- 8
+    Listed (Memory Ani (Pointer Me0 r)) 13 ∷  -- 9
+    Listed (Load (Low r)) 6 ∷  -- A
+    Listed (Memory Ori (Pointer Me0 r)) 13 ∷  -- B
+    Listed (Compare (High r)) 7 ∷  -- C
+    Listed (Bii (Pointer Me0 r)) 10 ∷  -- D
+    Listed (Compare (Low r)) 7 ∷  -- E
+    Listed (Memory Adi (Pointer Me0 r)) 13 ∷  -- F
     []
 
 -- Row 7: the register that the LH5801 does not have, again.
@@ -97,7 +97,7 @@ shared8 r =
     —— ∷  -- 5
     Listed (Alu Cpa (In (High r))) 6 ∷  -- 6
     —— ∷ —— ∷ —— ∷ —— ∷ —— ∷  -- 7 to B
-    Listed (Alu Dca (Pointer r Me0)) 15 ∷  -- C
+    Listed (Alu Dca (Pointer Me0 r)) 15 ∷  -- C
     —— ∷ —— ∷ —— ∷  -- D to F
     []
 
@@ -105,21 +105,21 @@ shared8 r =
 abbrev pub branches : Bool → Register → Decoded → Decoded → List Decoded
 branches forward r at8 atA =
     Listed (Alu Sbc (In (High r))) 6 ∷  -- 0
-    Listed (Branch NoCarry forward) 8 ∷  -- 1
+    Listed (Branch forward NoCarry) 8 ∷  -- 1
     Listed (Alu Adc (In (High r))) 6 ∷  -- 2
-    Listed (Branch Carry forward) 8 ∷  -- 3
+    Listed (Branch forward Carry) 8 ∷  -- 3
     Listed (Alu Lda (In (High r))) 5 ∷  -- 4
-    Listed (Branch NoHalf forward) 8 ∷  -- 5
+    Listed (Branch forward NoHalf) 8 ∷  -- 5
     Listed (Alu Cpa (In (High r))) 6 ∷  -- 6
-    Listed (Branch HalfCarry forward) 8 ∷  -- 7
+    Listed (Branch forward HalfCarry) 8 ∷  -- 7
     at8 ∷  -- 8
-    Listed (Branch NotZero forward) 8 ∷  -- 9
+    Listed (Branch forward NotZero) 8 ∷  -- 9
     atA ∷  -- A
-    Listed (Branch Zero forward) 8 ∷  -- B
-    Listed (Alu Dca (Pointer r Me0)) 15 ∷  -- C
-    Listed (Branch NoOverflow forward) 8 ∷  -- D
-    Listed (Branch Always forward) 6 ∷  -- E
-    Listed (Branch Overflow forward) 8 ∷  -- F
+    Listed (Branch forward Zero) 8 ∷  -- B
+    Listed (Alu Dca (Pointer Me0 r)) 15 ∷  -- C
+    Listed (Branch forward NoOverflow) 8 ∷  -- D
+    Listed (Branch forward Always) 6 ∷  -- E
+    Listed (Branch forward Overflow) 8 ∷  -- F
     []
 
 abbrev pub row8 : List Decoded
@@ -143,7 +143,7 @@ rowA =
     Listed (Alu And (Fixed Me0)) 13 ∷  -- 9
     Listed LoadS 12 ∷  -- A
     Listed (Alu Ora (Fixed Me0)) 13 ∷  -- B
-    Listed (Alu Dca (Pointer U Me0)) 15 ∷  -- C
+    Listed (Alu Dca (Pointer Me0 U)) 15 ∷  -- C
     Listed (Alu Eor (Fixed Me0)) 13 ∷  -- D
     Listed (Sta (Fixed Me0)) 12 ∷  -- E
     Listed (Alu Bit (Fixed Me0)) 13 ∷  -- F
@@ -196,11 +196,11 @@ rowD =
     Listed (Vector 0xD0) 4 ∷  -- 0
     Listed (Accumulator Ror) 9 ∷  -- 1
     Listed (Vector 0xD2) 4 ∷  -- 2
-    Listed (Drr (Pointer X Me0)) 12 ∷  -- 3
+    Listed (Drr Me0) 12 ∷  -- 3
     Listed (Vector 0xD4) 4 ∷  -- 4
     Listed (Accumulator Shr) 9 ∷  -- 5
     Listed (Vector 0xD6) 4 ∷  -- 6
-    Listed (Drl (Pointer X Me0)) 12 ∷  -- 7
+    Listed (Drl Me0) 12 ∷  -- 7
     Listed (Vector 0xD8) 4 ∷  -- 8
     Listed (Accumulator Shl) 6 ∷  -- 9
     Listed (Vector 0xDA) 4 ∷  -- A

@@ -22,21 +22,21 @@ use Rattle.execution.specs.declared.instructions.Decoded.the-variants.{L
 abbrev pub row0 : Register → List Decoded
 row0 r =
     —— ∷  -- 0
-    Listed (Alu Sbc (Pointer r Me1)) 11 ∷  -- 1
+    Listed (Alu Sbc (Pointer Me1 r)) 11 ∷  -- 1
     —— ∷  -- 2
-    Listed (Alu Adc (Pointer r Me1)) 11 ∷  -- 3
+    Listed (Alu Adc (Pointer Me1 r)) 11 ∷  -- 3
     —— ∷  -- 4
-    Listed (Alu Lda (Pointer r Me1)) 10 ∷  -- 5
+    Listed (Alu Lda (Pointer Me1 r)) 10 ∷  -- 5
     —— ∷  -- 6
-    Listed (Alu Cpa (Pointer r Me1)) 11 ∷  -- 7
+    Listed (Alu Cpa (Pointer Me1 r)) 11 ∷  -- 7
     Listed (ToX (Of r)) 11 ∷  -- 8
-    Listed (Alu And (Pointer r Me1)) 11 ∷  -- 9
+    Listed (Alu And (Pointer Me1 r)) 11 ∷  -- 9
     Listed (PopWord r) 15 ∷  -- A
-    Listed (Alu Ora (Pointer r Me1)) 11 ∷  -- B
-    Listed (Alu Dcs (Pointer r Me1)) 17 ∷  -- C
-    Listed (Alu Eor (Pointer r Me1)) 11 ∷  -- D
-    Listed (Sta (Pointer r Me1)) 10 ∷  -- E
-    Listed (Alu Bit (Pointer r Me1)) 11 ∷  -- F
+    Listed (Alu Ora (Pointer Me1 r)) 11 ∷  -- B
+    Listed (Alu Dcs (Pointer Me1 r)) 17 ∷  -- C
+    Listed (Alu Eor (Pointer Me1 r)) 11 ∷  -- D
+    Listed (Sta (Pointer Me1 r)) 10 ∷  -- E
+    Listed (Alu Bit (Pointer Me1 r)) 11 ∷  -- F
     []
 
 -- Row 3: a word dropped from the stack.
@@ -56,13 +56,13 @@ row4 r at8 atC atE =
     Listed (Dec (High r)) 9 ∷  -- 2
     —— ∷ —— ∷ —— ∷ —— ∷ —— ∷  -- 3 to 7
     at8 ∷  -- 8
-    Listed (Memory Ani (Pointer r Me1)) 17 ∷  -- 9
+    Listed (Memory Ani (Pointer Me1 r)) 17 ∷  -- 9
     Listed (FromX (Of r)) 11 ∷  -- A
-    Listed (Memory Ori (Pointer r Me1)) 17 ∷  -- B
+    Listed (Memory Ori (Pointer Me1 r)) 17 ∷  -- B
     atC ∷  -- C
-    Listed (Bii (Pointer r Me1)) 14 ∷  -- D
+    Listed (Bii (Pointer Me1 r)) 14 ∷  -- D
     atE ∷  -- E
-    Listed (Memory Adi (Pointer r Me1)) 17 ∷  -- F
+    Listed (Memory Adi (Pointer Me1 r)) 17 ∷  -- F
     []
 
 abbrev pub row4X : List Decoded
@@ -90,7 +90,7 @@ row8 r at1 atA atE =
     —— ∷  -- 9
     atA ∷  -- A
     —— ∷  -- B
-    Listed (Alu Dca (Pointer r Me1)) 19 ∷  -- C
+    Listed (Alu Dca (Pointer Me1 r)) 19 ∷  -- C
     —— ∷  -- D
     atE ∷  -- E
     —— ∷  -- F
@@ -117,7 +117,7 @@ rowA =
     Listed (Alu And (Fixed Me1)) 17 ∷  -- 9
     Listed (Accumulator Tta) 9 ∷  -- A
     Listed (Alu Ora (Fixed Me1)) 17 ∷  -- B
-    Listed (Alu Dca (Pointer U Me1)) 19 ∷  -- C
+    Listed (Alu Dca (Pointer Me1 U)) 19 ∷  -- C
     Listed (Alu Eor (Fixed Me1)) 17 ∷  -- D
     Listed (Sta (Fixed Me1)) 16 ∷  -- E
     Listed (Alu Bit (Fixed Me1)) 17 ∷  -- F
@@ -152,9 +152,9 @@ rowC =
 abbrev pub rowD : List Decoded
 rowD =
     —— ∷ —— ∷ —— ∷  -- 0 to 2
-    Listed (Drr (Pointer X Me1)) 16 ∷  -- 3
+    Listed (Drr Me1) 16 ∷  -- 3
     —— ∷ —— ∷ —— ∷  -- 4 to 6
-    Listed (Drl (Pointer X Me1)) 16 ∷  -- 7
+    Listed (Drl Me1) 16 ∷  -- 7
     —— ∷ —— ∷  -- 8 9
     Listed (Adr Y) 11 ∷  -- A
     —— ∷ —— ∷ —— ∷  -- B to D

@@ -27,20 +27,15 @@ registerOf None = X
 
 abbrev pub registerAt : Place → Register
 registerAt (HalfAt h) = registerOf h
-registerAt (Pointer r page) = r
+registerAt (Pointer page r) = r
 registerAt (Fixed page) = X
 registerAt InCode = X
 
--- a half of a word, and the word with another byte there
+-- a half of a word
 abbrev pub halfOf : ℕ → Half → ℕ
 halfOf w (High r) = w / 256
 halfOf w (Low r) = w % 256
 halfOf w None = 0
-
-abbrev pub replaced : ℕ → Half → ℕ → ℕ
-replaced w (High r) v = v * 256 + w % 256
-replaced w (Low r) v = w / 256 * 256 + v
-replaced w None v = w
 
 unfoldable pub fixedAt : ℕ → Page → Prog Located
 fixedAt p page = do
@@ -50,13 +45,13 @@ fixedAt p page = do
 -- w is the word of the place's register
 unfoldable pub locateAt : ℕ → ℕ → Place → Prog Located
 locateAt w p (HalfAt h) = done (located 0 p)
-locateAt w p (Pointer r page) = done (located (addressOf w page) p)
+locateAt w p (Pointer page r) = done (located (addressOf w page) p)
 locateAt w p (Fixed page) = fixedAt p page
 locateAt w p InCode = done (located 0 p)
 
 unfoldable pub operandAt : ℕ → ℕ → Place → Prog CodeByte
 operandAt w p (HalfAt h) = done (codeByte (halfOf w h) p)
-operandAt w p (Pointer r page) = do
+operandAt w p (Pointer page r) = do
   b ← read (addressOf w page)
   done (codeByte b p)
 operandAt w p (Fixed page) = do

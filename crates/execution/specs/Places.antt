@@ -51,7 +51,7 @@ located at next = record { addr = at; p = next }
 -- the address of a place in memory, and P after it was found. A half and a byte in the code have none, and no instruction asks for it
 unfoldable pub locateOf : Lh5801 → Place → Prog Located
 locateOf m (HalfAt h) = done (located 0 (m .p))
-locateOf m (Pointer r page) = done (located (addressOf (wordIn m r) page) (m .p))
+locateOf m (Pointer page r) = done (located (addressOf (wordIn m r) page) (m .p))
 locateOf m (Fixed page) = do
   w ← readopWordOf (m .p)
   done (located (addressOf (w .value) page) (w .p))
@@ -60,7 +60,7 @@ locateOf m InCode = done (located 0 (m .p))
 -- the byte of a place, and P after it was read
 unfoldable pub operandOf : Lh5801 → Place → Prog CodeByte
 operandOf m (HalfAt h) = done (codeByte (halfIn m h) (m .p))
-operandOf m (Pointer r page) = do
+operandOf m (Pointer page r) = do
   b ← read (addressOf (wordIn m r) page)
   done (codeByte b (m .p))
 operandOf m (Fixed page) = do

@@ -3,6 +3,7 @@ use Prim.Native.Nat.{ℕ, _+_}
 use mathlib.Core.Bool.{Bool, true, false, _&&_, cond}
 use lib.Dec.{eqb}
 use Rattle.arithmetic.specs.declared.record.Lh5801.{Lh5801}
+use Rattle.execution.specs.declared.Inputs.{Inputs}
 use Rattle.arithmetic.specs.Record.{with-p, with-ir1, with-ir2, with-is-timer-reached}
 use Rattle.arithmetic.specs.Flags.{IE, hasFlag}
 use Rattle.pages.specs.Prog.{Prog, done, _>>=_}
@@ -74,16 +75,16 @@ unlistedBy true byte = UnlistedFd byte
 unlistedBy false byte = UnlistedByte byte
 
 -- what a decoded byte does: its states are those that the table prints and those that it adds where it is taken
-unfoldable pub obeyOf : Lh5801 → ℕ → Fetched → Decoded → Prog StepEnd
-obeyOf m key o (Listed i n) = do
-  k ← executeOf (with-p m (o .p)) key i
+unfoldable pub obeyOf : Lh5801 → Inputs → Fetched → Decoded → Prog StepEnd
+obeyOf m inputs o (Listed i n) = do
+  k ← executeOf (with-p m (o .p)) inputs i
   done (did (timerPartOf (addStateOf k n)) (n + addedOf m i) (instruction (o .fd) (o .byte)))
-obeyOf m key o Unlisted = done (stopped (unlistedBy (o .fd) (o .byte)))
+obeyOf m inputs o Unlisted = done (stopped (unlistedBy (o .fd) (o .byte)))
 
-unfoldable pub instructionOf : Lh5801 → ℕ → Prog StepEnd
-instructionOf m key = do
+unfoldable pub instructionOf : Lh5801 → Inputs → Prog StepEnd
+instructionOf m inputs = do
   o ← fetchOf (m .p)
-  obeyOf m key o (decodedBy (o .fd) (o .byte))
+  obeyOf m inputs o (decodedBy (o .fd) (o .byte))
 
 -- an interrupt that is entered: no states are added
 unfoldable pub enteredOf : Lh5801 → ℕ → Prog StepEnd
@@ -96,14 +97,14 @@ unfoldable pub reachedOf : Lh5801 → Lh5801
 reachedOf m = cond (m .«is_timer_reached») (with-is-timer-reached (with-ir1 m true) false) m
 
 -- with BF set: IR0; else IR1 with IE; else IR2 with IE; else halted, stop 7; else one instruction
-unfoldable pub poweredOf : Lh5801 → ℕ → Prog StepEnd
-poweredOf m key =
+unfoldable pub poweredOf : Lh5801 → Inputs → Prog StepEnd
+poweredOf m inputs =
     cond (m .ir0) (done (did (timerPartOf m) 0 frozen))
     (cond (m .ir1 && hasFlag (m .t) IE) (enteredOf (with-ir1 m false) 0xFFFA)
     (cond (m .ir2 && hasFlag (m .t) IE) (enteredOf (with-ir2 m false) 0xFFF8)
     (cond (m .«is_halted») (done (stopped Halted))
-    (instructionOf m key))))
+    (instructionOf m inputs))))
 
 -- "BF clear: 8 states, nothing else, no timer part"
-unfoldable pub stepOf : Lh5801 → ℕ → Prog StepEnd
-stepOf m key = cond (m .bf) (poweredOf (reachedOf m) key) (done (did (addStateOf m 8) 8 off))
+unfoldable pub stepOf : Lh5801 → Inputs → Prog StepEnd
+stepOf m inputs = cond (m .bf) (poweredOf (reachedOf m) inputs) (done (did (addStateOf m 8) 8 off))

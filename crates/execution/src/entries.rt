@@ -39,16 +39,16 @@ pub fn bii(place: Place, states: u8) -> Decoded
     Decoded::Listed(Instruction::Bii(place), states)
 }
 
-pub fn load(h: Half, place: Place, states: u8) -> Decoded
-    ensures { λ d. ⌜ d ≡ Listed (Load h place) states ⌝ }
+pub fn load(h: Half, states: u8) -> Decoded
+    ensures { λ d. ⌜ d ≡ Listed (Load h) states ⌝ }
 {
-    Decoded::Listed(Instruction::Load(h, place), states)
+    Decoded::Listed(Instruction::Load(h), states)
 }
 
-pub fn compare(h: Half, place: Place, states: u8) -> Decoded
-    ensures { λ d. ⌜ d ≡ Listed (Compare h place) states ⌝ }
+pub fn compare(h: Half, states: u8) -> Decoded
+    ensures { λ d. ⌜ d ≡ Listed (Compare h) states ⌝ }
 {
-    Decoded::Listed(Instruction::Compare(h, place), states)
+    Decoded::Listed(Instruction::Compare(h), states)
 }
 
 pub fn inc(h: Half, states: u8) -> Decoded
@@ -100,9 +100,9 @@ pub fn lde(r: Register, states: u8) -> Decoded
 }
 
 pub fn branch(c: Condition, forward: bool, states: u8) -> Decoded
-    ensures { λ d. ⌜ d ≡ Listed (Branch c forward) states ⌝ }
+    ensures { λ d. ⌜ d ≡ Listed (Branch forward c) states ⌝ }
 {
-    Decoded::Listed(Instruction::Branch(c, forward), states)
+    Decoded::Listed(Instruction::Branch(forward, c), states)
 }
 
 pub fn vector_if(c: Condition, states: u8) -> Decoded

@@ -7,7 +7,8 @@ ghost use Rattle.pages.specs.Prog.{mapped};
 ghost use Rattle.pages.specs.Contract.{Changes, Reads};
 ghost use Rattle.execution.specs.Instructions.{executeOf};
 ghost use Rattle.execution.specs.Step.{outcomeOf, fetchOf, decodedBy, unlistedBy, reachedOf, stepOf};
-ghost use Rattle.execution.specs.Due.{dueOf, Ready, settledOnA, settledSignal, settledOf, outcomeIn, DueAgain, Waits};
+ghost use Rattle.execution.specs.Due.{dueOf, Ready, settledOnA, settledSignal, settledOf, executedOf, DueAgain};
+ghost use Rattle.execution.specs.Inputs.{ofKeyboard};
 use crate::instructions::Accumulator;
 use crate::instructions::Decoded;
 use crate::instructions::Instruction;
@@ -22,6 +23,20 @@ pub mod opcodes_fd;
 pub mod operations;
 pub mod places;
 pub mod transfers;
+
+// What a step is given besides the record and the pages.
+pub struct Inputs {
+    pub keyboard: u8,
+}
+
+impl Inputs {
+    // The keyboard byte, and nothing else asked for.
+    pub fn of_keyboard(keyboard: u8) -> Inputs
+        ensures { λ r. ⌜ r ≡ ofKeyboard keyboard ⌝ }
+    {
+        Inputs { keyboard: keyboard }
+    }
+}
 
 // Why a step stops: document 01's 5 and 6 with the byte, and 7.
 pub enum Stop {
@@ -54,20 +69,20 @@ pub fn execute(
     cpu: Lh5801,
     page0: &mut [u8],
     page1: &mut [u8],
-    keyboard: u8,
+    inputs: Inputs,
     i: Instruction,
 ) -> Lh5801
-    ensures { λ r. ⌜ Changes (executeOf cpu keyboard i) page0 page1 r ⌝ }
+    ensures { λ r. ⌜ Changes (executeOf cpu inputs i) page0 page1 r ⌝ }
 {
     match i {
         Instruction::Alu(o, place) => operations::alu(cpu, page0, page1, o, place),
         Instruction::Sta(place) => operations::sta(cpu, page0, page1, place),
         Instruction::Memory(o, place) => operations::memory(cpu, page0, page1, o, place),
         Instruction::Bii(place) => operations::bii(cpu, page0, page1, place),
-        Instruction::Drr(place) => operations::drr(cpu, page0, page1, place),
-        Instruction::Drl(place) => operations::drl(cpu, page0, page1, place),
-        Instruction::Load(h, place) => operations::load(cpu, page0, page1, h, place),
-        Instruction::Compare(h, place) => operations::compare(cpu, page0, page1, h, place),
+        Instruction::Drr(page) => operations::drr(cpu, page0, page1, page),
+        Instruction::Drl(page) => operations::drl(cpu, page0, page1, page),
+        Instruction::Load(h) => operations::load(cpu, page0, page1, h),
+        Instruction::Compare(h) => operations::compare(cpu, page0, page1, h),
         Instruction::Inc(h) => operations::inc_half(cpu, h),
         Instruction::Dec(h) => operations::dec_half(cpu, h),
         Instruction::IncWord(r) => transfers::inc_word(cpu, r),
@@ -76,7 +91,7 @@ pub fn execute(
         Instruction::Sde(r) => transfers::sde(cpu, page0, page1, r),
         Instruction::Lin(r) => transfers::lin(cpu, page0, page1, r),
         Instruction::Lde(r) => transfers::lde(cpu, page0, page1, r),
-        Instruction::Branch(c, forward) => flow::branch(cpu, page0, page1, c, forward),
+        Instruction::Branch(forward, c) => flow::branch(cpu, page0, page1, c, forward),
         Instruction::Lop => flow::lop(cpu, page0, page1),
         Instruction::VectorIf(c) => flow::vector_if(cpu, page0, page1, c),
         Instruction::Vector(nr) => flow::vector(cpu, page0, page1, nr),
@@ -87,7 +102,7 @@ pub fn execute(
         Instruction::LoadS => transfers::load_s(cpu, page0, page1),
         Instruction::Tin => transfers::tin(cpu, page0, page1),
         Instruction::Cin => transfers::cin(cpu, page0, page1),
-        Instruction::Accumulator(o) => transfers::accumulator(cpu, o, keyboard),
+        Instruction::Accumulator(o) => transfers::accumulator(cpu, o, inputs.keyboard),
         Instruction::Signal(s, value) => transfers::signal(cpu, s, value),
         Instruction::PopWord(r) => transfers::pop_to(cpu, page0, page1, r),
         Instruction::PushWord(r) => transfers::push_from(cpu, page0, page1, r),
@@ -127,10 +142,10 @@ fn fetch(p: u16, page0: &[u8], page1: &[u8]) -> Fetched
 fn decode(fd: bool, byte: u8) -> Decoded
     ensures { λ r. ⌜ r ≡ decodedBy fd byte ⌝ }
 {
-    if fd {
-        opcodes_fd::decode_fd(byte)
-    } else {
+    if !fd {
         opcodes::decode(byte)
+    } else {
+        opcodes_fd::decode_fd(byte)
     }
 }
 
@@ -179,25 +194,24 @@ fn settled(i: Instruction) -> bool
 }
 
 // The step of an instruction that is due: the record after it, and whether an instruction is due again; or the stop of an unlisted byte.
-pub fn instruction(cpu: Lh5801, page0: &mut [u8], page1: &mut [u8], keyboard: u8) -> Executed
+pub fn instruction(cpu: Lh5801, page0: &mut [u8], page1: &mut [u8], inputs: Inputs) -> Executed
     requires { ⌜ (cpu .tm < 512) × Ready cpu ⌝ }
-    ensures { λ r. ⌜ Changes (mapped outcomeOf (stepOf cpu keyboard)) page0 page1 (outcomeIn r) × DueAgain r ⌝ }
+    ensures { λ r. ⌜ Changes (mapped executedOf (stepOf cpu inputs)) page0 page1 r × DueAgain r ⌝ }
 {
     let o = fetch(cpu.p, page0, page1);
     match decode(o.fd, o.byte) {
         Decoded::Listed(i, states) => {
-            let next = execute(cpu.with_p(o.p), page0, page1, keyboard, i);
-            let now = pages::add_state(next, states);
+            let next = execute(cpu.with_p(o.p), page0, page1, inputs, i);
             // Asked before the timer part: after it, each step costs nine machine instructions more.
             if settled(i) {
-                let k = pages::timer_part(now);
+                let k = pages::timer_part(pages::add_state(next, states));
                 if k.is_timer_reached {
                     Executed::Completed(k)
                 } else {
                     Executed::Again(k)
                 }
             } else {
-                Executed::Completed(pages::timer_part(now))
+                Executed::Completed(pages::timer_part(pages::add_state(next, states)))
             }
         }
         Decoded::Unlisted => Executed::Stopped(unlisted(o.fd, o.byte)),
@@ -234,9 +248,9 @@ fn answered(cpu: Lh5801) -> Lh5801
 }
 
 // A step with BF set and timer reached clear in which no instruction is due.
-fn held(cpu: Lh5801, page0: &mut [u8], page1: &mut [u8]) -> Outcome
+fn held(cpu: Lh5801, page0: &mut [u8], page1: &mut [u8], inputs: Inputs) -> Outcome
     requires { ⌜ (cpu .tm < 512) × (cpu .bf ≡ true) × (cpu .«is_timer_reached» ≡ false) × (dueOf cpu ≡ false) ⌝ }
-    ensures { λ r. ⌜ Waits cpu page0 page1 r ⌝ }
+    ensures { λ r. ⌜ Changes (mapped outcomeOf (stepOf cpu inputs)) page0 page1 r ⌝ }
 {
     if cpu.ir0 {
         return Outcome::Completed(pages::timer_part(cpu));
@@ -255,17 +269,17 @@ pub fn due(cpu: Lh5801) -> bool
 {
     let enabled = arithmetic::get_flag(cpu.t, arithmetic::IE);
     let requested = cpu.ir1 | cpu.is_timer_reached | cpu.ir2;
-    let waits = cpu.ir0 | (requested & enabled) | cpu.is_halted;
-    cpu.bf & !waits
+    let other = cpu.ir0 | (requested & enabled) | cpu.is_halted;
+    cpu.bf & !other
 }
 
-// A step where no instruction is due.
-pub fn waits(cpu: Lh5801, page0: &mut [u8], page1: &mut [u8]) -> Outcome
+// One step in which no instruction is due.
+pub fn step_cpu(cpu: Lh5801, page0: &mut [u8], page1: &mut [u8], inputs: Inputs) -> Outcome
     requires { ⌜ (cpu .tm < 512) × (dueOf cpu ≡ false) ⌝ }
-    ensures { λ r. ⌜ Waits cpu page0 page1 r ⌝ }
+    ensures { λ r. ⌜ Changes (mapped outcomeOf (stepOf cpu inputs)) page0 page1 r ⌝ }
 {
     if cpu.bf {
-        held(reached(cpu), page0, page1)
+        held(reached(cpu), page0, page1, inputs)
     } else {
         Outcome::Completed(pages::add_state(cpu, 8))
     }

@@ -1,8 +1,8 @@
 // The opcodes of the first page: the high digit of a byte is its row, the low digit its column.
-// A row matches on the whole byte and leaves to the next row what it does not list; the rows of X, Y
-// and U are written out. So one jump leads from a byte to its instruction (docs/MEASUREMENTS.md).
+// A row matches on the whole byte and leaves to the next row of its half what it does not list; the rows
+// of X, Y and U are written out. So one jump leads from a byte to its instruction (docs/MEASUREMENTS.md).
 ghost use mathlib.Core.Path.{_≡_};
-ghost use lib.ListN.{drop};
+ghost use lib.ListN.{take, drop};
 ghost use Rattle.execution.specs.Opcodes.{rows, decoded};
 ghost use Rattle.execution.specs.Chain.{chained};
 use crate::entries;
@@ -23,10 +23,10 @@ use crate::places::Register::Y;
 // Rows 0, 1 and 2: A with the low half of X, Y or U, and with the byte of page 0 that it points
 // to.
 fn row_0(byte: u8) -> Decoded
-    ensures { λ d. ⌜ d ≡ chained (drop 0 rows) 0 byte ⌝ }
+    ensures { λ d. ⌜ d ≡ chained (drop 0 (take 8 rows)) 0 byte ⌝ }
 {
     let low = Place::Half(Half::Low(X));
-    let at = Place::Pointer(X, Page::Me0);
+    let at = Place::Pointer(Page::Me0, X);
     match byte {
         0x00 => entries::alu(Operation::Sbc, low, 6),
         0x01 => entries::alu(Operation::Sbc, at, 7),
@@ -49,10 +49,10 @@ fn row_0(byte: u8) -> Decoded
 }
 
 fn row_1(byte: u8) -> Decoded
-    ensures { λ d. ⌜ d ≡ chained (drop 1 rows) 1 byte ⌝ }
+    ensures { λ d. ⌜ d ≡ chained (drop 1 (take 8 rows)) 1 byte ⌝ }
 {
     let low = Place::Half(Half::Low(Y));
-    let at = Place::Pointer(Y, Page::Me0);
+    let at = Place::Pointer(Page::Me0, Y);
     match byte {
         0x10 => entries::alu(Operation::Sbc, low, 6),
         0x11 => entries::alu(Operation::Sbc, at, 7),
@@ -75,10 +75,10 @@ fn row_1(byte: u8) -> Decoded
 }
 
 fn row_2(byte: u8) -> Decoded
-    ensures { λ d. ⌜ d ≡ chained (drop 2 rows) 2 byte ⌝ }
+    ensures { λ d. ⌜ d ≡ chained (drop 2 (take 8 rows)) 2 byte ⌝ }
 {
     let low = Place::Half(Half::Low(U));
-    let at = Place::Pointer(U, Page::Me0);
+    let at = Place::Pointer(Page::Me0, U);
     match byte {
         0x20 => entries::alu(Operation::Sbc, low, 6),
         0x21 => entries::alu(Operation::Sbc, at, 7),
@@ -102,7 +102,7 @@ fn row_2(byte: u8) -> Decoded
 
 // Row 3: A with the register that the LH5801 does not have.
 fn row_3(byte: u8) -> Decoded
-    ensures { λ d. ⌜ d ≡ chained (drop 3 rows) 3 byte ⌝ }
+    ensures { λ d. ⌜ d ≡ chained (drop 3 (take 8 rows)) 3 byte ⌝ }
 {
     let missing = Place::Half(Half::None);
     match byte {
@@ -117,10 +117,9 @@ fn row_3(byte: u8) -> Decoded
 
 // Rows 4, 5 and 6: X, Y or U and its halves, and the byte of page 0 that it points to.
 fn row_4(byte: u8) -> Decoded
-    ensures { λ d. ⌜ d ≡ chained (drop 4 rows) 4 byte ⌝ }
+    ensures { λ d. ⌜ d ≡ chained (drop 4 (take 8 rows)) 4 byte ⌝ }
 {
-    let in_code = Place::InCode;
-    let at = Place::Pointer(X, Page::Me0);
+    let at = Place::Pointer(Page::Me0, X);
     match byte {
         0x40 => entries::inc(Half::Low(X), 5),
         0x41 => entries::sin(X, 6),
@@ -130,23 +129,22 @@ fn row_4(byte: u8) -> Decoded
         0x45 => entries::lin(X, 6),
         0x46 => entries::dec_word(X, 5),
         0x47 => entries::lde(X, 6),
-        0x48 => entries::load(Half::High(X), in_code, 6),
+        0x48 => entries::load(Half::High(X), 6),
         0x49 => entries::memory(Change::And, at, 13),
-        0x4a => entries::load(Half::Low(X), in_code, 6),
+        0x4a => entries::load(Half::Low(X), 6),
         0x4b => entries::memory(Change::Ora, at, 13),
-        0x4c => entries::compare(Half::High(X), in_code, 7),
+        0x4c => entries::compare(Half::High(X), 7),
         0x4d => entries::bii(at, 10),
-        0x4e => entries::compare(Half::Low(X), in_code, 7),
+        0x4e => entries::compare(Half::Low(X), 7),
         0x4f => entries::memory(Change::Add, at, 13),
         _ => row_5(byte),
     }
 }
 
 fn row_5(byte: u8) -> Decoded
-    ensures { λ d. ⌜ d ≡ chained (drop 5 rows) 5 byte ⌝ }
+    ensures { λ d. ⌜ d ≡ chained (drop 5 (take 8 rows)) 5 byte ⌝ }
 {
-    let in_code = Place::InCode;
-    let at = Place::Pointer(Y, Page::Me0);
+    let at = Place::Pointer(Page::Me0, Y);
     match byte {
         0x50 => entries::inc(Half::Low(Y), 5),
         0x51 => entries::sin(Y, 6),
@@ -156,23 +154,22 @@ fn row_5(byte: u8) -> Decoded
         0x55 => entries::lin(Y, 6),
         0x56 => entries::dec_word(Y, 5),
         0x57 => entries::lde(Y, 6),
-        0x58 => entries::load(Half::High(Y), in_code, 6),
+        0x58 => entries::load(Half::High(Y), 6),
         0x59 => entries::memory(Change::And, at, 13),
-        0x5a => entries::load(Half::Low(Y), in_code, 6),
+        0x5a => entries::load(Half::Low(Y), 6),
         0x5b => entries::memory(Change::Ora, at, 13),
-        0x5c => entries::compare(Half::High(Y), in_code, 7),
+        0x5c => entries::compare(Half::High(Y), 7),
         0x5d => entries::bii(at, 10),
-        0x5e => entries::compare(Half::Low(Y), in_code, 7),
+        0x5e => entries::compare(Half::Low(Y), 7),
         0x5f => entries::memory(Change::Add, at, 13),
         _ => row_6(byte),
     }
 }
 
 fn row_6(byte: u8) -> Decoded
-    ensures { λ d. ⌜ d ≡ chained (drop 6 rows) 6 byte ⌝ }
+    ensures { λ d. ⌜ d ≡ chained (drop 6 (take 8 rows)) 6 byte ⌝ }
 {
-    let in_code = Place::InCode;
-    let at = Place::Pointer(U, Page::Me0);
+    let at = Place::Pointer(Page::Me0, U);
     match byte {
         0x60 => entries::inc(Half::Low(U), 5),
         0x61 => entries::sin(U, 6),
@@ -182,13 +179,13 @@ fn row_6(byte: u8) -> Decoded
         0x65 => entries::lin(U, 6),
         0x66 => entries::dec_word(U, 5),
         0x67 => entries::lde(U, 6),
-        0x68 => entries::load(Half::High(U), in_code, 6),
+        0x68 => entries::load(Half::High(U), 6),
         0x69 => entries::memory(Change::And, at, 13),
-        0x6a => entries::load(Half::Low(U), in_code, 6),
+        0x6a => entries::load(Half::Low(U), 6),
         0x6b => entries::memory(Change::Ora, at, 13),
-        0x6c => entries::compare(Half::High(U), in_code, 7),
+        0x6c => entries::compare(Half::High(U), 7),
         0x6d => entries::bii(at, 10),
-        0x6e => entries::compare(Half::Low(U), in_code, 7),
+        0x6e => entries::compare(Half::Low(U), 7),
         0x6f => entries::memory(Change::Add, at, 13),
         _ => row_7(byte),
     }
@@ -196,11 +193,11 @@ fn row_6(byte: u8) -> Decoded
 
 // Row 7: the register that the LH5801 does not have.
 fn row_7(byte: u8) -> Decoded
-    ensures { λ d. ⌜ d ≡ chained (drop 7 rows) 7 byte ⌝ }
+    ensures { λ d. ⌜ d ≡ chained (drop 7 (take 8 rows)) 7 byte ⌝ }
 {
     match byte {
         0x72 => entries::dec(Half::None, 5),
-        _ => row_8(byte),
+        _ => Decoded::Unlisted,
     }
 }
 
@@ -222,7 +219,7 @@ fn row_8(byte: u8) -> Decoded
         0x89 => entries::branch(Condition::NotZero, true, 8),
         0x8a => Decoded::Listed(Instruction::Rti, 14),
         0x8b => entries::branch(Condition::Zero, true, 8),
-        0x8c => entries::alu(Operation::Dca, Place::Pointer(X, Page::Me0), 15),
+        0x8c => entries::alu(Operation::Dca, Place::Pointer(Page::Me0, X), 15),
         0x8d => entries::branch(Condition::NoOverflow, true, 8),
         0x8e => entries::branch(Condition::Always, true, 6),
         0x8f => entries::branch(Condition::Overflow, true, 8),
@@ -247,7 +244,7 @@ fn row_9(byte: u8) -> Decoded
         0x99 => entries::branch(Condition::NotZero, false, 8),
         0x9a => Decoded::Listed(Instruction::Rtn, 11),
         0x9b => entries::branch(Condition::Zero, false, 8),
-        0x9c => entries::alu(Operation::Dca, Place::Pointer(Y, Page::Me0), 15),
+        0x9c => entries::alu(Operation::Dca, Place::Pointer(Page::Me0, Y), 15),
         0x9d => entries::branch(Condition::NoOverflow, false, 8),
         0x9e => entries::branch(Condition::Always, false, 6),
         0x9f => entries::branch(Condition::Overflow, false, 8),
@@ -274,7 +271,7 @@ fn row_a(byte: u8) -> Decoded
         0xa9 => entries::alu(Operation::And, fixed, 13),
         0xaa => Decoded::Listed(Instruction::LoadS, 12),
         0xab => entries::alu(Operation::Ora, fixed, 13),
-        0xac => entries::alu(Operation::Dca, Place::Pointer(U, Page::Me0), 15),
+        0xac => entries::alu(Operation::Dca, Place::Pointer(Page::Me0, U), 15),
         0xad => entries::alu(Operation::Eor, fixed, 13),
         0xae => entries::sta(fixed, 12),
         0xaf => entries::alu(Operation::Bit, fixed, 13),
@@ -333,16 +330,16 @@ fn row_c(byte: u8) -> Decoded
 fn row_d(byte: u8) -> Decoded
     ensures { λ d. ⌜ d ≡ chained (drop 13 rows) 13 byte ⌝ }
 {
-    let at = Place::Pointer(X, Page::Me0);
+    let at = Place::Pointer(Page::Me0, X);
     match byte {
         0xd0 => entries::vector(208, 4),
         0xd1 => entries::accumulator(Accumulator::Ror, 9),
         0xd2 => entries::vector(210, 4),
-        0xd3 => Decoded::Listed(Instruction::Drr(at), 12),
+        0xd3 => Decoded::Listed(Instruction::Drr(Page::Me0), 12),
         0xd4 => entries::vector(212, 4),
         0xd5 => entries::accumulator(Accumulator::Shr, 9),
         0xd6 => entries::vector(214, 4),
-        0xd7 => Decoded::Listed(Instruction::Drl(at), 12),
+        0xd7 => Decoded::Listed(Instruction::Drl(Page::Me0), 12),
         0xd8 => entries::vector(216, 4),
         0xd9 => entries::accumulator(Accumulator::Shl, 6),
         0xda => entries::vector(218, 4),
@@ -402,5 +399,5 @@ fn row_f(byte: u8) -> Decoded
 pub fn decode(byte: u8) -> Decoded
     ensures { λ d. ⌜ d ≡ decoded byte ⌝ }
 {
-    row_0(byte)
+    if byte < 128 { row_0(byte) } else { row_8(byte) }
 }

@@ -23,7 +23,7 @@ use crate::places::Register::Y;
 fn row_0(byte: u8) -> Decoded
     ensures { λ d. ⌜ d ≡ chained (drop 0 rowsFd) 0 byte ⌝ }
 {
-    let at = Place::Pointer(X, Page::Me1);
+    let at = Place::Pointer(Page::Me1, X);
     match byte {
         0x01 => entries::alu(Operation::Sbc, at, 11),
         0x03 => entries::alu(Operation::Adc, at, 11),
@@ -44,7 +44,7 @@ fn row_0(byte: u8) -> Decoded
 fn row_1(byte: u8) -> Decoded
     ensures { λ d. ⌜ d ≡ chained (drop 1 rowsFd) 1 byte ⌝ }
 {
-    let at = Place::Pointer(Y, Page::Me1);
+    let at = Place::Pointer(Page::Me1, Y);
     match byte {
         0x11 => entries::alu(Operation::Sbc, at, 11),
         0x13 => entries::alu(Operation::Adc, at, 11),
@@ -65,7 +65,7 @@ fn row_1(byte: u8) -> Decoded
 fn row_2(byte: u8) -> Decoded
     ensures { λ d. ⌜ d ≡ chained (drop 2 rowsFd) 2 byte ⌝ }
 {
-    let at = Place::Pointer(U, Page::Me1);
+    let at = Place::Pointer(Page::Me1, U);
     match byte {
         0x21 => entries::alu(Operation::Sbc, at, 11),
         0x23 => entries::alu(Operation::Adc, at, 11),
@@ -98,7 +98,7 @@ fn row_3(byte: u8) -> Decoded
 fn row_4(byte: u8) -> Decoded
     ensures { λ d. ⌜ d ≡ chained (drop 4 rowsFd) 4 byte ⌝ }
 {
-    let at = Place::Pointer(X, Page::Me1);
+    let at = Place::Pointer(Page::Me1, X);
     match byte {
         0x40 => entries::inc(Half::High(X), 9),
         0x42 => entries::dec(Half::High(X), 9),
@@ -117,7 +117,7 @@ fn row_4(byte: u8) -> Decoded
 fn row_5(byte: u8) -> Decoded
     ensures { λ d. ⌜ d ≡ chained (drop 5 rowsFd) 5 byte ⌝ }
 {
-    let at = Place::Pointer(Y, Page::Me1);
+    let at = Place::Pointer(Page::Me1, Y);
     match byte {
         0x50 => entries::inc(Half::High(Y), 9),
         0x52 => entries::dec(Half::High(Y), 9),
@@ -135,7 +135,7 @@ fn row_5(byte: u8) -> Decoded
 fn row_6(byte: u8) -> Decoded
     ensures { λ d. ⌜ d ≡ chained (drop 6 rowsFd) 6 byte ⌝ }
 {
-    let at = Place::Pointer(U, Page::Me1);
+    let at = Place::Pointer(Page::Me1, U);
     match byte {
         0x60 => entries::inc(Half::High(U), 9),
         0x62 => entries::dec(Half::High(U), 9),
@@ -156,7 +156,7 @@ fn row_8(byte: u8) -> Decoded
         0x81 => entries::signal(Signal::InterruptEnable, true, 8),
         0x88 => entries::push_word(X, 14),
         0x8a => Decoded::Listed(Instruction::PopA, 12),
-        0x8c => entries::alu(Operation::Dca, Place::Pointer(X, Page::Me1), 19),
+        0x8c => entries::alu(Operation::Dca, Place::Pointer(Page::Me1, X), 19),
         0x8e => Decoded::Listed(Instruction::Cdv, 8),
         _ => row_9(byte),
     }
@@ -167,7 +167,7 @@ fn row_9(byte: u8) -> Decoded
 {
     match byte {
         0x98 => entries::push_word(Y, 14),
-        0x9c => entries::alu(Operation::Dca, Place::Pointer(Y, Page::Me1), 19),
+        0x9c => entries::alu(Operation::Dca, Place::Pointer(Page::Me1, Y), 19),
         _ => row_a(byte),
     }
 }
@@ -186,7 +186,7 @@ fn row_a(byte: u8) -> Decoded
         0xa9 => entries::alu(Operation::And, fixed, 17),
         0xaa => entries::accumulator(Accumulator::Tta, 9),
         0xab => entries::alu(Operation::Ora, fixed, 17),
-        0xac => entries::alu(Operation::Dca, Place::Pointer(U, Page::Me1), 19),
+        0xac => entries::alu(Operation::Dca, Place::Pointer(Page::Me1, U), 19),
         0xad => entries::alu(Operation::Eor, fixed, 17),
         0xae => entries::sta(fixed, 16),
         0xaf => entries::alu(Operation::Bit, fixed, 17),
@@ -225,10 +225,10 @@ fn row_c(byte: u8) -> Decoded
 fn row_d(byte: u8) -> Decoded
     ensures { λ d. ⌜ d ≡ chained (drop 13 rowsFd) 13 byte ⌝ }
 {
-    let at = Place::Pointer(X, Page::Me1);
+    let at = Place::Pointer(Page::Me1, X);
     match byte {
-        0xd3 => Decoded::Listed(Instruction::Drr(at), 16),
-        0xd7 => Decoded::Listed(Instruction::Drl(at), 16),
+        0xd3 => Decoded::Listed(Instruction::Drr(Page::Me1), 16),
+        0xd7 => Decoded::Listed(Instruction::Drl(Page::Me1), 16),
         0xda => entries::adr(Y, 11),
         0xde => entries::accumulator(Accumulator::Am1, 9),
         _ => row_e(byte),

@@ -6,6 +6,7 @@ use crate::instructions::Change;
 use crate::instructions::Operation;
 use crate::places;
 use crate::places::Half;
+use crate::places::Page;
 use crate::places::Place;
 use arithmetic::record::Lh5801;
 
@@ -49,9 +50,7 @@ pub fn sta(cpu: Lh5801, page0: &mut [u8], page1: &mut [u8], place: Place) -> Lh5
 {
     match place {
         Place::Half(h) => places::set_half(cpu, h, cpu.a),
-        Place::Pointer(r, page) => store(cpu, page0, page1, place),
-        Place::Fixed(page) => store(cpu, page0, page1, place),
-        Place::InCode => cpu,
+        _ => store(cpu, page0, page1, place),
     }
 }
 
@@ -100,39 +99,39 @@ pub fn bii(cpu: Lh5801, page0: &[u8], page1: &[u8], place: Place) -> Lh5801
     arithmetic::bit(cpu.with_p(imm.p), b, imm.value)
 }
 
-pub fn drr(cpu: Lh5801, page0: &mut [u8], page1: &mut [u8], place: Place) -> Lh5801
-    ensures { λ r. ⌜ Changes (drrOf cpu place) page0 page1 r ⌝ }
+pub fn drr(cpu: Lh5801, page0: &mut [u8], page1: &mut [u8], page: Page) -> Lh5801
+    ensures { λ r. ⌜ Changes (drrOf cpu page) page0 page1 r ⌝ }
 {
-    let l = places::locate(places::word_at(cpu, place), cpu.p, page0, page1, place);
-    let b = pages::read_byte(page0, page1, l.addr);
+    let at = places::paged(cpu.x, page);
+    let b = pages::read_byte(page0, page1, at);
     let moved = arithmetic::drr(cpu.a, b);
-    pages::write_byte(page0, page1, l.addr, moved.byte);
+    pages::write_byte(page0, page1, at, moved.byte);
     cpu.with_a(moved.a)
 }
 
-pub fn drl(cpu: Lh5801, page0: &mut [u8], page1: &mut [u8], place: Place) -> Lh5801
-    ensures { λ r. ⌜ Changes (drlOf cpu place) page0 page1 r ⌝ }
+pub fn drl(cpu: Lh5801, page0: &mut [u8], page1: &mut [u8], page: Page) -> Lh5801
+    ensures { λ r. ⌜ Changes (drlOf cpu page) page0 page1 r ⌝ }
 {
-    let l = places::locate(places::word_at(cpu, place), cpu.p, page0, page1, place);
-    let b = pages::read_byte(page0, page1, l.addr);
+    let at = places::paged(cpu.x, page);
+    let b = pages::read_byte(page0, page1, at);
     let moved = arithmetic::drl(cpu.a, b);
-    pages::write_byte(page0, page1, l.addr, moved.byte);
+    pages::write_byte(page0, page1, at, moved.byte);
     cpu.with_a(moved.a)
 }
 
-// A half from a place.
-pub fn load(cpu: Lh5801, page0: &[u8], page1: &[u8], h: Half, place: Place) -> Lh5801
-    ensures { λ r. ⌜ Reads (loadOf cpu h place) page0 page1 r ⌝ }
+// LDI: a half from the code.
+pub fn load(cpu: Lh5801, page0: &[u8], page1: &[u8], h: Half) -> Lh5801
+    ensures { λ r. ⌜ Reads (loadOf cpu h) page0 page1 r ⌝ }
 {
-    let f = places::operand(places::word_at(cpu, place), cpu.p, page0, page1, place);
+    let f = pages::cpu_readop(cpu.p, page0, page1);
     places::set_half(cpu.with_p(f.p), h, f.value)
 }
 
-// A half against a place.
-pub fn compare(cpu: Lh5801, page0: &[u8], page1: &[u8], h: Half, place: Place) -> Lh5801
-    ensures { λ r. ⌜ Reads (compareOf cpu h place) page0 page1 r ⌝ }
+// CPI: a half against the code.
+pub fn compare(cpu: Lh5801, page0: &[u8], page1: &[u8], h: Half) -> Lh5801
+    ensures { λ r. ⌜ Reads (compareOf cpu h) page0 page1 r ⌝ }
 {
-    let f = places::operand(places::word_at(cpu, place), cpu.p, page0, page1, place);
+    let f = pages::cpu_readop(cpu.p, page0, page1);
     let left = places::get_half(cpu, h);
     arithmetic::cpa(cpu.with_p(f.p), left, f.value)
 }

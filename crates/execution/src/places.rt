@@ -2,7 +2,7 @@
 ghost use mathlib.Core.Path.{_≡_};
 ghost use Rattle.pages.specs.Contract.{Reads};
 ghost use Rattle.execution.specs.Places.{wordIn, withWord, halfIn, withHalf, addressOf};
-ghost use Rattle.execution.specs.Operands.{chosen, registerOf, registerAt, halfOf, replaced, fixedAt, locateAt, operandAt};
+ghost use Rattle.execution.specs.Operands.{chosen, registerOf, registerAt, halfOf, fixedAt, locateAt, operandAt};
 use arithmetic::record::Lh5801;
 use pages::CodeByte;
 
@@ -30,7 +30,7 @@ pub enum Page {
 // the word in the code, or in the code itself.
 pub enum Place {
     Half(Half),
-    Pointer(Register, Page),
+    Pointer(Page, Register),
     Fixed(Page),
     InCode,
 }
@@ -88,17 +88,6 @@ fn half_of(w: u16, h: Half) -> u8
     }
 }
 
-// The word with a byte in a half.
-fn with_half(w: u16, h: Half, v: u8) -> u16
-    ensures { λ r. ⌜ r ≡ replaced w h v ⌝ }
-{
-    match h {
-        Half::High(r) => v as u16 * 256 + w % 256,
-        Half::Low(r) => w / 256 * 256 + v as u16,
-        Half::None => w,
-    }
-}
-
 pub fn get_half(cpu: Lh5801, h: Half) -> u8
     ensures { λ r. ⌜ r ≡ halfIn cpu h ⌝ }
 {
@@ -110,10 +99,11 @@ pub fn get_half(cpu: Lh5801, h: Half) -> u8
 pub fn set_half(cpu: Lh5801, h: Half, v: u8) -> Lh5801
     ensures { λ m. ⌜ m ≡ withHalf cpu h v ⌝ }
 {
-    let r = register_of(h);
-    let w = get_word(cpu, r);
-    let changed = with_half(w, h, v);
-    set_word(cpu, r, changed)
+    match h {
+        Half::High(r) => set_word(cpu, r, v as u16 * 256 + get_word(cpu, r) % 256),
+        Half::Low(r) => set_word(cpu, r, get_word(cpu, r) / 256 * 256 + v as u16),
+        Half::None => cpu,
+    }
 }
 
 pub fn paged(addr: u16, page: Page) -> u32
@@ -139,7 +129,7 @@ pub fn locate(at: u16, p: u16, page0: &[u8], page1: &[u8], place: Place) -> Loca
     ensures { λ r. ⌜ Reads (locateAt at p place) page0 page1 r ⌝ }
 {
     match place {
-        Place::Pointer(r, page) => {
+        Place::Pointer(page, r) => {
             let addr = paged(at, page);
             Located { addr: addr, p: p }
         }
@@ -154,7 +144,7 @@ fn register_at(place: Place) -> Register
     ensures { λ r. ⌜ r ≡ registerAt place ⌝ }
 {
     match place {
-        Place::Pointer(r, page) => r,
+        Place::Pointer(page, r) => r,
         Place::Half(h) => register_of(h),
         Place::Fixed(page) => Register::X,
         Place::InCode => Register::X,
@@ -174,11 +164,7 @@ pub fn operand(at: u16, p: u16, page0: &[u8], page1: &[u8], place: Place) -> Cod
     ensures { λ r. ⌜ Reads (operandAt at p place) page0 page1 r ⌝ }
 {
     match place {
-        Place::Half(h) => {
-            let b = half_of(at, h);
-            CodeByte { value: b, p: p }
-        }
-        Place::Pointer(r, page) => {
+        Place::Pointer(page, r) => {
             let addr = paged(at, page);
             let b = pages::read_byte(page0, page1, addr);
             CodeByte { value: b, p: p }
@@ -189,5 +175,9 @@ pub fn operand(at: u16, p: u16, page0: &[u8], page1: &[u8], place: Place) -> Cod
             CodeByte { value: b, p: l.p }
         }
         Place::InCode => pages::cpu_readop(p, page0, page1),
+        Place::Half(h) => {
+            let b = half_of(at, h);
+            CodeByte { value: b, p: p }
+        }
     }
 }

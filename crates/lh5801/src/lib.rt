@@ -1,9 +1,11 @@
 // The entry that a C or Rust program links: one run call.
 ghost use mathlib.Core.Path.{_≡_};
 ghost use Rattle.pages.specs.Contract.{atEntry, atExit};
+ghost use Rattle.execution.specs.Inputs.{ofKeyboard};
 ghost use Rattle.run.specs.Run.{callOf, settings};
 ghost use Rattle.lh5801.specs.Words.{recordOf, wordsOf, Left};
 use arithmetic::record::Lh5801;
+use execution::Inputs;
 use run::Answer;
 use run::Settings;
 use run::campaign_file;
@@ -78,13 +80,14 @@ pub extern "C" fn lh5801_run(
     keyboard: u8,
     limit: u32,
 )
-    ensures { λ _. ⌜ Left (callOf (settings keyboard limit) (recordOf (now (words .entry))) (atEntry page0 page1)) (now (words .exit)) (atExit page0 page1) ⌝ }
+    ensures { λ _. ⌜ Left (callOf (settings (ofKeyboard keyboard) limit) (recordOf (now (words .entry))) (atEntry page0 page1)) (now (words .exit)) (atExit page0 page1) ⌝ }
 {
     let cpu = record_of(words);
-    let given = Settings {
-        keyboard: keyboard,
+    let inputs = Inputs::of_keyboard(keyboard);
+    let settings = Settings {
+        inputs: inputs,
         limit: limit,
     };
-    let answer = run::run(cpu, page0, page1, given);
+    let answer = run::run(cpu, page0, page1, settings);
     *words = words_of(answer);
 }

@@ -1,5 +1,5 @@
 -- How what functions do on the lent pages is put together. Callers cite these laws and open neither `exec` nor the pages.
-use mathlib.Core.Path.{_≡_, refl, sym, _∙_}
+use mathlib.Core.Path.{_≡_, refl, sym, ap, _∙_}
 use mathlib.Core.List.{List}
 use Prim.Native.Nat.{ℕ, _-_, _<_, _≤_}
 use lib.ListN.{getD, set}
@@ -25,6 +25,17 @@ does-then {p = p} f {l = l} d e = record { value = cc (bind-answer p f l); pages
 pub does-mapped : {A B : Type 0} (f : A → B) {p : Prog A} {m n : Pages} {r : A} → Does p m r n → Does (mapped f p) m (f r) n
 unfolding mapped
 does-mapped f d = does-then _ d (does-done refl)
+
+-- an answer that the program's own answer gives by f gives the one by g
+pub does-through : {A B C : Type 0} (f : A → B) (g : A → C) (h : B → C) → ((a : A) → h (f a) ≡ g a) → (p : Prog A) {m n : Pages} {r : B}
+    → Does (mapped f p) m r n
+    → Does (mapped g p) m (h r) n
+unfolding mapped exec
+does-through f g h e p {m} d =
+    record {
+      value = ap h (d .value ∙ bind-answer p (λ a. done (f a)) m) ∙ e (exec p m .answer) ∙ sym (bind-answer p (λ a. done (g a)) m);
+      pages = bind-pages p (λ a. done (g a)) m ∙ sym (bind-pages p (λ a. done (f a)) m) ∙ d .pages;
+    }
 
 -- one access
 pub does-read : (a : ℕ) {b : ℕ} {m : Pages} → b ≡ at m a → Does (read a) m b m

@@ -9,7 +9,7 @@ use Rattle.run.specs.declared.campaign_file.Refusal.{Refusal}
 use Rattle.run.specs.CampaignFile.{Field, read, refused, campaignOf, refusalNumber, refusalOffset}
 use Rattle.run.specs.Line.{refusalLineOf}
 use Rattle.run.specs.Run.{Outcome}
-use Rattle.run.specs.Report.{part, toldLine}
+use Rattle.run.specs.Report.{part, settingsIn, toldLine}
 use Rattle.replay.specs.declared.Sums.{Sums}
 use Rattle.replay.specs.declared.Rule.{Rule}
 use Rattle.replay.specs.declared.Found.{Found}
@@ -28,7 +28,7 @@ blank = replicate 65537 0
 -- the call of a file that was read, on pages of these lengths
 unfoldable pub outcomeOf : List ℕ → Parsed → ℕ → ℕ → Rule → List ℕ → Outcome
 outcomeOf file c len0 len1 rule sets =
-    runPartsOf (c .settings) (c .cpu) (prepareOf blank 0 len0 rule file (c .«page0_at») (c .«page0_len») sets) len0
+    runPartsOf (settingsIn (c .asked)) (c .cpu) (prepareOf blank 0 len0 rule file (c .«page0_at») (c .«page0_len») sets) len0
     (prepareOf blank 1 len1 rule file (c .«page1_at») (c .«page1_len») sets) len1
 
 -- 0 where a call tells the wanted line and leaves pages of the wanted sums, else 1

@@ -314,7 +314,8 @@ fn call_differs(
         sets,
     );
     let cpu = c.cpu;
-    let settings = c.settings;
+    let asked = c.asked;
+    let settings = run::report::settings_of(asked);
     let a = run_pages(cpu, &mut page0, len0, &mut page1, len1, settings);
     let n = told_line(&mut out, a);
     let none = Sums {

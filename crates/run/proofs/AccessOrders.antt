@@ -15,6 +15,7 @@ use Rattle.pages.specs.Prog.{_>>=_, read, write, Access, readOf, writeOf, Ran, 
 use Rattle.pages.specs.Written.{Write, writes, readFirst}
 use Rattle.pages.specs.Stack.{readopOf, readopWordOf, mem16Of, pushOf, pushWordOf, popOf, popWordOf, pushStateOf, entryOf}
 use Rattle.pages.specs.Timer.{addStateOf, passedOf, timerPartOf}
+use Rattle.execution.specs.Inputs.{ofKeyboard}
 use Rattle.execution.specs.Opcodes.{decoded}
 use Rattle.execution.specs.OpcodesFd.{decodedFd}
 use Rattle.execution.specs.Places.{locateOf, operandOf}
@@ -63,7 +64,7 @@ enabled = with-p (with-t given IE) 0x0304
 -- one step with the keyboard byte 77. Whoever unfolds it unfolds all that a step computes through, but the pages
 unfoldable pub stepped : Lh5801 → Pages → Ran StepEnd
 unfolding with-a with-t with-x with-y with-u with-s with-p with-is-halted with-bf with-ir0 with-ir1 with-ir2 with-is-timer-reached with-timer-state with-ticks withFlags addOf sbcOf cpaOf ldaOf bitTestOf _>>=_ read write after exec readopOf readopWordOf mem16Of pushOf pushWordOf popOf popWordOf pushStateOf entryOf addStateOf passedOf timerPartOf decoded decodedFd locateOf operandOf aluOf storeOf staOf memoryOf biiOf drrOf drlOf loadOf compareOf incWordOf decWordOf storeAtOf loadAtOf sinOf sdeOf linOf ldeOf branchOf lopOf vectorOf vectorIfOf jmpOf sjpOf rtnOf rtiOf loadSOf tinOf cinOf popToOf pushFromOf dropWordOf executeOf fetchOf obeyOf instructionOf enteredOf reachedOf poweredOf stepOf cpuOf given enabled
-stepped m p = oneStep 0x77 m p
+stepped m p = oneStep (ofKeyboard 0x77) m p
 
 abbrev pub stepSeen : Lh5801 → Pages → Seen
 stepSeen m p = seenOf (stepped m p .answer) (stepped m p .accesses)
@@ -242,7 +243,7 @@ twoSteps = coded (0x0E ∷ 0xFD ∷ 0x00 ∷ [])
 
 -- with any limit from 2 on, the accesses are those of the completed step and then the two reads of the step that stops with 6
 pub stopping-step-reads : (n : ℕ)
-    → accessesOf (suc (suc n)) 0x77 given twoSteps ≡ stepped given twoSteps .accesses ++ (readOf 0x01 0xFD ∷ readOf 0x02 0x00 ∷ [])
+    → accessesOf (suc (suc n)) (ofKeyboard 0x77) given twoSteps ≡ stepped given twoSteps .accesses ++ (readOf 0x01 0xFD ∷ readOf 0x02 0x00 ∷ [])
 unfolding accessesOf accessesAfter stepped at inside stored setByte store
 stopping-step-reads n = refl
 
@@ -268,7 +269,7 @@ callSeenOf o p l = record {
 }
 
 abbrev pub callSeen : ℕ → Lh5801 → Pages → CallSeen
-callSeen limit m p = callSeenOf (callOf (settings 0x77 limit) m p) p (accessesOf limit 0x77 m p)
+callSeen limit m p = callSeenOf (callOf (settings (ofKeyboard 0x77) limit) m p) p (accessesOf limit (ofKeyboard 0x77) m p)
 
 pub record CallCase : Type 0 where
   pub limit : ℕ

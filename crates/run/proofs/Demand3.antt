@@ -6,6 +6,7 @@ use Prim.Native.Nat.{ℕ, _+_, _<_, _≤_}
 use native.Mathlib.Nat.{add-zero}
 use native.Mathlib.Omega.{arith}
 use Rattle.arithmetic.specs.declared.record.Lh5801.{Lh5801}
+use Rattle.execution.specs.declared.Inputs.{Inputs}
 use Rattle.pages.specs.Pages.{Pages, SameLength}
 use Rattle.pages.specs.Written.{Written}
 use Rattle.execution.proofs.StepKeeps.{step-small}
@@ -53,16 +54,16 @@ adds-more x {y} {ys} h =
     }
 
 -- one call, and one before others
-adds-last : (l key : ℕ) (m : Lh5801) (p : Pages) → Accepted (settings key l) m p → Adds (runOf (l + 0) key m p) (callsOf (l ∷ []) key m p)
+adds-last : (l : ℕ) (inputs : Inputs) (m : Lh5801) (p : Pages) → Accepted (settings inputs l) m p → Adds (runOf (l + 0) inputs m p) (callsOf (l ∷ []) inputs m p)
 unfolding callsOf
-adds-last l key m p h = rw (call-run (settings key l) m p h, add-zero) (adds-one _)
+adds-last l inputs m p h = rw (call-run (settings inputs l) m p h, add-zero) (adds-one _)
 
-adds-first : (l n : ℕ) (ls : List ℕ) (key : ℕ) (m : Lh5801) (p : Pages) → Accepted (settings key l) m p → 1 ≤ n
-    → Adds (runOf n key (runOf l key m p .told .cpu) (runOf l key m p .pages))
-    (callsOf ls key (runOf l key m p .told .cpu) (runOf l key m p .pages))
-    → Adds (runOf (l + n) key m p) (callsOf (l ∷ ls) key m p)
+adds-first : (l n : ℕ) (ls : List ℕ) (inputs : Inputs) (m : Lh5801) (p : Pages) → Accepted (settings inputs l) m p → 1 ≤ n
+    → Adds (runOf n inputs (runOf l inputs m p .told .cpu) (runOf l inputs m p .pages))
+    (callsOf ls inputs (runOf l inputs m p .told .cpu) (runOf l inputs m p .pages))
+    → Adds (runOf (l + n) inputs m p) (callsOf (l ∷ ls) inputs m p)
 unfolding callsOf
-adds-first l n ls key m p h i rest = rw (call-run (settings key l) m p h, ← run-split l n key m p i) (adds-more _ rest)
+adds-first l n ls inputs m p h i rest = rw (call-run (settings inputs l) m p h, ← run-split l n inputs m p i) (adds-more _ rest)
 
 -- the calls, from the pages q, come to an outcome that differs from the run's at most in its pages
 same : {p q : Pages} {run x : Outcome} {xs : List Outcome} → Adds x xs → SameButPages run x
@@ -84,8 +85,8 @@ same h t v w =
     }
 
 -- a smaller limit, and equally long pages
-first-accepted : (l n key : ℕ) {m : Lh5801} {p : Pages} → Accepted (settings key (l + n)) m p → 1 ≤ l → Accepted (settings key l) m p
-first-accepted l n key h i =
+first-accepted : (l n : ℕ) (inputs : Inputs) {m : Lh5801} {p : Pages} → Accepted (settings inputs (l + n)) m p → 1 ≤ l → Accepted (settings inputs l) m p
+first-accepted l n inputs h i =
     record { page0 = h .page0; page1 = h .page1; timer = h .timer; limit = ⊎-elim (λ e. omega arith) (λ e. omega (arith, limit-most h)) }
 
 long-accepted : {s : Settings} {m : Lh5801} {p q : Pages} → Accepted s m p → SameLength p q → Accepted s m q
@@ -93,60 +94,60 @@ long-accepted h l = record { page0 = rw (← (l .page0)) (h .page0); page1 = rw 
 
 -- so long as a completed step keeps TM at most 511
 -- so do the steps of a call
-pub run-small : (n key : ℕ) (m : Lh5801) (p : Pages) → m .tm < 512 → runOf n key m p .told .cpu .tm < 512
+pub run-small : (n : ℕ) (inputs : Inputs) (m : Lh5801) (p : Pages) → m .tm < 512 → runOf n inputs m p .told .cpu .tm < 512
 unfolding noStep completed
-run-small n key =
-    run-each key (λ n m p o. m .tm < 512 → o .told .cpu .tm < 512)
+run-small n inputs =
+    run-each inputs (λ n m p o. m .tm < 512 → o .told .cpu .tm < 512)
     (λ m p h. h)
     (λ n m p s e h. h)
-    (λ n m p k t kind e ih h. ih (step-small m key h p k t kind e))
+    (λ n m p k t kind e ih h. ih (step-small m inputs h p k t kind e))
     n
 
 -- after the first call of a list, the others can be accepted
-rest-accepted : (l n key : ℕ) {m : Lh5801} {p : Pages} → Accepted (settings key (l + n)) m p → 1 ≤ n
-    → Accepted (settings key n) (runOf l key m p .told .cpu) (runOf l key m p .pages)
-rest-accepted l n key {m} {p} h i =
+rest-accepted : (l n : ℕ) (inputs : Inputs) {m : Lh5801} {p : Pages} → Accepted (settings inputs (l + n)) m p → 1 ≤ n
+    → Accepted (settings inputs n) (runOf l inputs m p .told .cpu) (runOf l inputs m p .pages)
+rest-accepted l n inputs {m} {p} h i =
     record {
-      page0 = rw (← (run-written l key m p .long .page0)) (h .page0);
-      page1 = rw (← (run-written l key m p .long .page1)) (h .page1);
-      timer = omega (arith, run-small l key m p (omega (arith, h .timer)));
+      page0 = rw (← (run-written l inputs m p .long .page0)) (h .page0);
+      page1 = rw (← (run-written l inputs m p .long .page1)) (h .page1);
+      timer = omega (arith, run-small l inputs m p (omega (arith, h .timer)));
       limit = ⊎-elim (λ e. omega arith) (λ e. omega (arith, limit-most h));
     }
 
-all-accepted : (l : ℕ) (ls : List ℕ) (key : ℕ) (m : Lh5801) (p : Pages)
-    → Accepted (settings key (l + sum ls)) m p
+all-accepted : (l : ℕ) (ls : List ℕ) (inputs : Inputs) (m : Lh5801) (p : Pages)
+    → Accepted (settings inputs (l + sum ls)) m p
     → 1 ≤ l
     → AtLeastOne ls
-    → AllAccepted (l ∷ ls) key m p
+    → AllAccepted (l ∷ ls) inputs m p
 unfolding sum AtLeastOne AllAccepted
-all-accepted l [] key m p h i is = (first-accepted l 0 key h i, tt)
-all-accepted l (k ∷ ks) key m p h i is =
-    let a = first-accepted l (k + sum ks) key h i in (
+all-accepted l [] inputs m p h i is = (first-accepted l 0 inputs h i, tt)
+all-accepted l (k ∷ ks) inputs m p h i is =
+    let a = first-accepted l (k + sum ks) inputs h i in (
       a,
-      rw (call-run (settings key l) m p a)
-          (all-accepted k ks key _ _ (rest-accepted l (k + sum ks) key h (omega (arith, is .0))) (is .0) (is .1)),
+      rw (call-run (settings inputs l) m p a)
+          (all-accepted k ks inputs _ _ (rest-accepted l (k + sum ks) inputs h (omega (arith, is .0))) (is .0) (is .1)),
     )
 
 -- the calls come to one run with the sum of their limits
-calls-add : (l : ℕ) (ls : List ℕ) (key : ℕ) (m : Lh5801) (p : Pages)
-    → Accepted (settings key (l + sum ls)) m p
+calls-add : (l : ℕ) (ls : List ℕ) (inputs : Inputs) (m : Lh5801) (p : Pages)
+    → Accepted (settings inputs (l + sum ls)) m p
     → 1 ≤ l
     → AtLeastOne ls
-    → Adds (runOf (l + sum ls) key m p) (callsOf (l ∷ ls) key m p)
+    → Adds (runOf (l + sum ls) inputs m p) (callsOf (l ∷ ls) inputs m p)
 unfolding sum AtLeastOne
-calls-add l [] key m p h i is = adds-last l key m p (first-accepted l 0 key h i)
-calls-add l (k ∷ ks) key m p h i is =
-    adds-first l (k + sum ks) (k ∷ ks) key m p (first-accepted l (k + sum ks) key h i) (omega (arith, is .0))
-    (calls-add k ks key _ _ (rest-accepted l (k + sum ks) key h (omega (arith, is .0))) (is .0) (is .1))
+calls-add l [] inputs m p h i is = adds-last l inputs m p (first-accepted l 0 inputs h i)
+calls-add l (k ∷ ks) inputs m p h i is =
+    adds-first l (k + sum ks) (k ∷ ks) inputs m p (first-accepted l (k + sum ks) inputs h i) (omega (arith, is .0))
+    (calls-add k ks inputs _ _ (rest-accepted l (k + sum ks) inputs h (omega (arith, is .0))) (is .0) (is .1))
 
 pub demand-3 : Demand3
 unfolding Demand3 sum AtLeastOne
 demand-3 s m p h [] is e q l agree = absurd (omega (arith, limit-some h))
 demand-3 s m p h (k ∷ ks) is e q l agree =
-    let a : Accepted (settings (s .keyboard) (k + sum ks)) m q = rw e (long-accepted h l) in (
-      all-accepted k ks (s .keyboard) m q a (is .0) (is .1),
+    let a : Accepted (settings (s .inputs) (k + sum ks)) m q = rw e (long-accepted h l) in (
+      all-accepted k ks (s .inputs) m q a (is .0) (is .1),
       rw (call-run s m p h)
-          (same (rw e at (calls-add k ks (s .keyboard) m q a (is .0) (is .1))) (run-agree (s .limit) (s .keyboard) m p q l agree)
-          (run-written (s .limit) (s .keyboard) m p)
-          (run-written (s .limit) (s .keyboard) m q)),
+          (same (rw e at (calls-add k ks (s .inputs) m q a (is .0) (is .1))) (run-agree (s .limit) (s .inputs) m p q l agree)
+          (run-written (s .limit) (s .inputs) m p)
+          (run-written (s .limit) (s .inputs) m q)),
     )

@@ -5,6 +5,7 @@ use Prim.Native.Nat.{ℕ, zero, suc, _+_, _*_, _%_, _^_, _<_, _≤_}
 use native.Mathlib.Nat.{zero-add, add-zero, suc-add, add-assoc, not-suc-le-zero, le-of-suc-le-suc}
 use native.Mathlib.Omega.{arith}
 use Rattle.arithmetic.specs.declared.record.Lh5801.{Lh5801}
+use Rattle.execution.specs.declared.Inputs.{Inputs}
 use Rattle.pages.specs.Pages.{Pages}
 use Rattle.pages.specs.Prog.{Access, readOf, writeOf}
 use Rattle.pages.specs.Written.{Write, writes}
@@ -18,107 +19,107 @@ use Rattle.run.specs.Reaches.{Reaches, start, next}
 use Rattle.run.proofs.Steps.{run-did, run-stop, accesses-did, accesses-stop, run-each}
 
 -- all n steps are completed, or fewer are and the next one stops
-pub data Ended (key n : ℕ) (o : Outcome) : Type 0 where
-  all : o .told .end ≡ AllSteps → o .told .steps ≡ n → Ended key n o
+pub data Ended (inputs : Inputs) (n : ℕ) (o : Outcome) : Type 0 where
+  all : o .told .end ≡ AllSteps → o .told .steps ≡ n → Ended inputs n o
   early : (s : Stop)
       → o .told .end ≡ Step s
       → o .told .steps < n
-      → oneStep key (o .told .cpu) (o .pages) .answer ≡ stopped s
-      → Ended key n o
+      → oneStep inputs (o .told .cpu) (o .pages) .answer ≡ stopped s
+      → Ended inputs n o
 
-ended-more : {key n : ℕ} {o : Outcome} (t : ℕ) (ws : List Write) → Ended key n o → Ended key (suc n) (completed t ws o)
+ended-more : {inputs : Inputs} {n : ℕ} {o : Outcome} (t : ℕ) (ws : List Write) → Ended inputs n o → Ended inputs (suc n) (completed t ws o)
 unfolding completed
 ended-more t ws (all e h) = all e (ap suc h)
 ended-more t ws (early s e h x) = early s e (omega arith) x
 
-pub run-ended : (n key : ℕ) (m : Lh5801) (p : Pages) → Ended key n (runOf n key m p)
+pub run-ended : (n : ℕ) (inputs : Inputs) (m : Lh5801) (p : Pages) → Ended inputs n (runOf n inputs m p)
 unfolding noStep
-run-ended n key =
-    run-each key (λ n m p o. Ended key n o)
+run-ended n inputs =
+    run-each inputs (λ n m p o. Ended inputs n o)
     (λ m p. all refl refl)
     (λ n m p s e. early s refl (omega arith) e)
     (λ n m p k t kind e h. ended-more t _ h)
     n
 
 -- what a call tells and leaves is what its completed steps lead to
-pub run-reaches : (n key : ℕ) (m : Lh5801) (p : Pages)
-    → Reaches key (runOf n key m p .told .steps) m p (runOf n key m p .told .cpu) (runOf n key m p .pages)
-    (runOf n key m p .told .states) (runOf n key m p .wrote)
+pub run-reaches : (n : ℕ) (inputs : Inputs) (m : Lh5801) (p : Pages)
+    → Reaches inputs (runOf n inputs m p .told .steps) m p (runOf n inputs m p .told .cpu) (runOf n inputs m p .pages)
+    (runOf n inputs m p .told .states) (runOf n inputs m p .wrote)
 unfolding noStep completed
-run-reaches n key =
-    run-each key (λ n m p o. Reaches key (o .told .steps) m p (o .told .cpu) (o .pages) (o .told .states) (o .wrote))
+run-reaches n inputs =
+    run-each inputs (λ n m p o. Reaches inputs (o .told .steps) m p (o .told .cpu) (o .pages) (o .told .states) (o .wrote))
     (λ m p. start)
     (λ n m p s e. start)
     (λ n m p k t kind e h. next e h)
     n
 
 -- and the other way round
-pub reaches-run : {key j : ℕ} {m k : Lh5801} {p q : Pages} {t : ℕ} {ws : List Write}
-    → Reaches key j m p k q t ws
-    → runOf j key m p ≡ outcome AllSteps j t k q ws
+pub reaches-run : {inputs : Inputs} {j : ℕ} {m k : Lh5801} {p q : Pages} {t : ℕ} {ws : List Write}
+    → Reaches inputs j m p k q t ws
+    → runOf j inputs m p ≡ outcome AllSteps j t k q ws
 unfolding noStep completed
 reaches-run start = unfold runOf in refl
-reaches-run {key} {m} {p} (next {j = j} e r) = rw (run-did key m p j e, reaches-run r)
+reaches-run {inputs} {m} {p} (next {j = j} e r) = rw (run-did inputs m p j e, reaches-run r)
 
-pub reaches-stop : {key j : ℕ} {m k : Lh5801} {p q : Pages} {t : ℕ} {ws : List Write} {s : Stop} (n : ℕ)
-    → Reaches key j m p k q t ws
+pub reaches-stop : {inputs : Inputs} {j : ℕ} {m k : Lh5801} {p q : Pages} {t : ℕ} {ws : List Write} {s : Stop} (n : ℕ)
+    → Reaches inputs j m p k q t ws
     → j < n
-    → oneStep key k q .answer ≡ stopped s
-    → runOf n key m p ≡ outcome (Step s) j t k q ws
+    → oneStep inputs k q .answer ≡ stopped s
+    → runOf n inputs m p ≡ outcome (Step s) j t k q ws
 unfolding noStep completed
 reaches-stop zero r h x = absurd (not-suc-le-zero h)
-reaches-stop {key} {m} {p} (suc n) start h x = run-stop key m p n x
-reaches-stop {key} {m} {p} (suc n) (next e r) h x = rw (run-did key m p n e, reaches-stop n r (le-of-suc-le-suc h) x)
+reaches-stop {inputs} {m} {p} (suc n) start h x = run-stop inputs m p n x
+reaches-stop {inputs} {m} {p} (suc n) (next e r) h x = rw (run-did inputs m p n e, reaches-stop n r (le-of-suc-le-suc h) x)
 
 -- one more completed step after those
-pub reaches-then : {key j : ℕ} {m k n : Lh5801} {p q : Pages} {t s : ℕ} {ws : List Write} {kind : Kind}
-    → Reaches key j m p k q t ws
-    → oneStep key k q .answer ≡ did n s kind
-    → Reaches key (suc j) m p n (oneStep key k q .pages) (t + s) (ws ++ writes (oneStep key k q .accesses))
+pub reaches-then : {inputs : Inputs} {j : ℕ} {m k n : Lh5801} {p q : Pages} {t s : ℕ} {ws : List Write} {kind : Kind}
+    → Reaches inputs j m p k q t ws
+    → oneStep inputs k q .answer ≡ did n s kind
+    → Reaches inputs (suc j) m p n (oneStep inputs k q .pages) (t + s) (ws ++ writes (oneStep inputs k q .accesses))
 reaches-then start x = rw zero-add (rw (add-zero, append-nil) at (next x start))
 reaches-then (next e r) x = rw (add-assoc, append-assoc) (next e (reaches-then r x))
 
 -- completed steps after completed steps
-pub reaches-all : {key i j : ℕ} {l m k : Lh5801} {o p q : Pages} {s t : ℕ} {vs ws : List Write}
-    → Reaches key i l o m p s vs
-    → Reaches key j m p k q t ws
-    → Reaches key (i + j) l o k q (s + t) (vs ++ ws)
+pub reaches-all : {inputs : Inputs} {i j : ℕ} {l m k : Lh5801} {o p q : Pages} {s t : ℕ} {vs ws : List Write}
+    → Reaches inputs i l o m p s vs
+    → Reaches inputs j m p k q t ws
+    → Reaches inputs (i + j) l o k q (s + t) (vs ++ ws)
 reaches-all start r = simp zero-add r
 reaches-all (next e f) r = rw (suc-add, add-assoc, append-assoc) (next e (reaches-all f r))
 
 -- no step leads nowhere
-pub reaches-none : {key j : ℕ} {m k : Lh5801} {p q : Pages} {t : ℕ} {ws : List Write}
-    → Reaches key j m p k q t ws
+pub reaches-none : {inputs : Inputs} {j : ℕ} {m k : Lh5801} {p q : Pages} {t : ℕ} {ws : List Write}
+    → Reaches inputs j m p k q t ws
     → j ≡ 0
     → (k ≡ m) × (q ≡ p)
 reaches-none start h = (refl, refl)
 reaches-none (next e r) h = absurd (omega arith)
 
 -- from a record with the same step, one step and more lead to the same
-pub reaches-from : {key j : ℕ} {m l k : Lh5801} {p q : Pages} {t : ℕ} {ws : List Write}
-    → stepOf m key ≡ stepOf l key
+pub reaches-from : {inputs : Inputs} {j : ℕ} {m l k : Lh5801} {p q : Pages} {t : ℕ} {ws : List Write}
+    → stepOf m inputs ≡ stepOf l inputs
     → 0 < j
-    → Reaches key j m p k q t ws
-    → Reaches key j l p k q t ws
+    → Reaches inputs j m p k q t ws
+    → Reaches inputs j l p k q t ws
 reaches-from z h start = absurd (omega arith)
 reaches-from {l = l} {p = p} {q = q} z h (next {j = j} {n = n} {k = k} {s = s} {t = t} {kind = kind} {ws = ws} e r) =
     rw z (next {j = j} {m = l} {n = n} {k = k} {p = p} {q = q} {s = s} {t = t} {kind = kind} {ws = ws} (rw (← z) e) (rw (← z) r))
 
 -- completed steps keep TM at most 511, and add their states, at most 23 each, to the ticks
-module _ {key : ℕ} where
-  pub reaches-small : {j : ℕ} {m k : Lh5801} {p q : Pages} {t : ℕ} {ws : List Write} → Reaches key j m p k q t ws → m .tm < 512 → k .tm < 512
+module _ {inputs : Inputs} where
+  pub reaches-small : {j : ℕ} {m k : Lh5801} {p q : Pages} {t : ℕ} {ws : List Write} → Reaches inputs j m p k q t ws → m .tm < 512 → k .tm < 512
   reaches-small start h = h
-  reaches-small {m = m} {p = p} (next {n = n} {s = s} {kind = kind} e r) h = reaches-small r (step-small m key h p n s kind e)
+  reaches-small {m = m} {p = p} (next {n = n} {s = s} {kind = kind} e r) h = reaches-small r (step-small m inputs h p n s kind e)
 
-  pub reaches-ticks : {j : ℕ} {m k : Lh5801} {p q : Pages} {t : ℕ} {ws : List Write} → Reaches key j m p k q t ws → m .tm < 512
+  pub reaches-ticks : {j : ℕ} {m k : Lh5801} {p q : Pages} {t : ℕ} {ws : List Write} → Reaches inputs j m p k q t ws → m .tm < 512
       → k .ticks % 2 ^ 64 ≡ (m .ticks + t) % 2 ^ 64
   reaches-ticks start h = omega arith
   reaches-ticks {m = m} {p = p} (next {n = n} {s = s} {kind = kind} e r) h =
-      omega (arith, reaches-ticks r (step-small m key h p n s kind e), step-ticks m key h p n s kind e)
+      omega (arith, reaches-ticks r (step-small m inputs h p n s kind e), step-ticks m inputs h p n s kind e)
 
-  pub reaches-most : {j : ℕ} {m k : Lh5801} {p q : Pages} {t : ℕ} {ws : List Write} → Reaches key j m p k q t ws → t ≤ 23 * j
+  pub reaches-most : {j : ℕ} {m k : Lh5801} {p q : Pages} {t : ℕ} {ws : List Write} → Reaches inputs j m p k q t ws → t ≤ 23 * j
   reaches-most start = omega arith
-  reaches-most {m = m} {p = p} (next {n = n} {s = s} {kind = kind} e r) = omega (arith, reaches-most r, step-states m key p n s kind e)
+  reaches-most {m = m} {p = p} (next {n = n} {s = s} {kind = kind} e r) = omega (arith, reaches-most r, step-states m inputs p n s kind e)
 
 -- the writes among a call's accesses are those of its completed steps, and after them those of the step that stops
 writes-append : (x y : List Access) → writes (x ++ y) ≡ writes x ++ writes y
@@ -127,22 +128,22 @@ writes-append [] y = refl
 writes-append (readOf a b ∷ x) y = writes-append x y
 writes-append (writeOf a v ∷ x) y = ap (λ l. record { place = a; byte = v } ∷ l) (writes-append x y)
 
-pub run-writes : (n key : ℕ) (m : Lh5801) (p : Pages)
-    → ((runOf n key m p .told .end ≡ AllSteps) → writes (accessesOf n key m p) ≡ runOf n key m p .wrote)
-    × ((s : Stop) → runOf n key m p .told .end ≡ Step s
-    → writes (accessesOf n key m p)
-    ≡ runOf n key m p .wrote ++ writes (oneStep key (runOf n key m p .told .cpu) (runOf n key m p .pages) .accesses))
+pub run-writes : (n : ℕ) (inputs : Inputs) (m : Lh5801) (p : Pages)
+    → ((runOf n inputs m p .told .end ≡ AllSteps) → writes (accessesOf n inputs m p) ≡ runOf n inputs m p .wrote)
+    × ((s : Stop) → runOf n inputs m p .told .end ≡ Step s
+    → writes (accessesOf n inputs m p)
+    ≡ runOf n inputs m p .wrote ++ writes (oneStep inputs (runOf n inputs m p .told .cpu) (runOf n inputs m p .pages) .accesses))
 unfolding noStep completed
-run-writes n key =
-    run-each key
+run-writes n inputs =
+    run-each inputs
     (λ n m p o.
-    (o .told .end ≡ AllSteps → writes (accessesOf n key m p) ≡ o .wrote)
+    (o .told .end ≡ AllSteps → writes (accessesOf n inputs m p) ≡ o .wrote)
     × ((s : Stop) → o .told .end ≡ Step s
-    → writes (accessesOf n key m p) ≡ o .wrote ++ writes (oneStep key (o .told .cpu) (o .pages) .accesses)))
+    → writes (accessesOf n inputs m p) ≡ o .wrote ++ writes (oneStep inputs (o .told .cpu) (o .pages) .accesses)))
     (λ m p. (λ e. unfold writes accessesOf in refl, λ s e. absurd (let z : _≡_ {A = ℕ} 0 1 = cc in omega arith)))
-    (λ n m p s x. (λ e. absurd (let z : _≡_ {A = ℕ} 0 1 = cc in omega arith), λ y e. rw (accesses-stop key m p n x, append-nil)))
+    (λ n m p s x. (λ e. absurd (let z : _≡_ {A = ℕ} 0 1 = cc in omega arith), λ y e. rw (accesses-stop inputs m p n x, append-nil)))
     (λ n m p k t kind x h. (
-      λ e. rw (accesses-did key m p n x, writes-append, h .0 e),
-      λ s e. rw (accesses-did key m p n x, writes-append, h .1 s e, append-assoc),
+      λ e. rw (accesses-did inputs m p n x, writes-append, h .0 e),
+      λ s e. rw (accesses-did inputs m p n x, writes-append, h .1 s e, append-assoc),
     ))
     n

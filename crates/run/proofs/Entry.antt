@@ -79,7 +79,7 @@ module _ (s : Settings) (m : Lh5801) (p : Pages) where
       )
 
   -- an accepted call does its steps
-  pub call-run : Accepted s m p → callOf s m p ≡ runOf (s .limit) (s .keyboard) m p
+  pub call-run : Accepted s m p → callOf s m p ≡ runOf (s .limit) (s .inputs) m p
   unfolding callOf enteredOf
   call-run h = rw (entry-accepted h)
 
@@ -91,7 +91,7 @@ module _ (s : Settings) (m : Lh5801) (p : Pages) where
   -- what holds of a refused call, and of the steps of an accepted one, holds of every call
   pub call-each : (P : Outcome → Type 0)
       → ((e : End) → P (noStep e m p))
-      → (Accepted s m p → P (runOf (s .limit) (s .keyboard) m p))
+      → (Accepted s m p → P (runOf (s .limit) (s .inputs) m p))
       → P (callOf s m p)
   call-each P a b = go entry-case
     where

@@ -17,14 +17,14 @@ use Rattle.execution.specs.Instructions.{aluOf, drrOf, drlOf, branchOf, lopOf, 
 use Rattle.execution.specs.Step.{fetchOf, obeyOf, instructionOf, reachedOf, poweredOf, stepOf}
 use Rattle.run.specs.Entry.{entryEnd}
 use Rattle.run.specs.Run.{noStep, completed, onward, runOf, enteredOf, callOf}
-use Rattle.run.specs.CampaignFile.{numberOf, registersOf, wordsOf, timingOf, settingsOf, bytesOf, pageOf, cpuOf, ended, campaignOf}
+use Rattle.run.specs.CampaignFile.{numberOf, registersOf, wordsOf, timingOf, askedOf, bytesOf, pageOf, cpuOf, ended, campaignOf}
 use Rattle.run.specs.CampaignFile.{flagsOf}
 use Rattle.run.specs.Line.{decimalOf, hexOf, lineOf}
 use Rattle.run.specs.Marked.{shiftsOf, toldOf, MarkedCase, markedCases}
 use Rattle.run.specs.Report.{reportOf}
 
 pub marked-cases-hold : map (λ (c : MarkedCase). toldOf (c .asked)) markedCases ≡ map (λ (c : MarkedCase). c .expected) markedCases
-unfolding toldOf markedCases shiftsOf reportOf with-a with-t with-u with-p with-tm with-is-timer-reached with-timer-state with-ticks withFlags addOf decimalSumOf dcaSum dcsSum dcaOf dcsOf ldaOf at inside stored setByte store _>>=_ read write after exec writes readopOf shiftOf timerIncOf addStateOf passedOf timerPartOf decoded locateOf operandOf aluOf drrOf drlOf branchOf lopOf executeOf fetchOf obeyOf instructionOf reachedOf poweredOf stepOf entryEnd noStep completed onward runOf enteredOf callOf numberOf registersOf wordsOf timingOf settingsOf bytesOf pageOf cpuOf ended campaignOf decimalOf hexOf flagsOf lineOf
+unfolding toldOf markedCases shiftsOf reportOf with-a with-t with-u with-p with-tm with-is-timer-reached with-timer-state with-ticks withFlags addOf decimalSumOf dcaSum dcsSum dcaOf dcsOf ldaOf at inside stored setByte store _>>=_ read write after exec writes readopOf shiftOf timerIncOf addStateOf passedOf timerPartOf decoded locateOf operandOf aluOf drrOf drlOf branchOf lopOf executeOf fetchOf obeyOf instructionOf reachedOf poweredOf stepOf entryEnd noStep completed onward runOf enteredOf callOf numberOf registersOf wordsOf timingOf askedOf bytesOf pageOf cpuOf ended campaignOf decimalOf hexOf flagsOf lineOf
 marked-cases-hold = refl
 
 -- the list is document 01's, in its order

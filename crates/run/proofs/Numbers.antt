@@ -5,6 +5,7 @@ use mathlib.Core.Logic.{_↔_, _⊎_, inl, inr, ⊎-elim}
 use Prim.Native.Nat.{ℕ, _≤_}
 use native.Mathlib.Omega.{arith}
 use Rattle.arithmetic.specs.declared.record.Lh5801.{Lh5801}
+use Rattle.execution.specs.declared.Inputs.{Inputs}
 use Rattle.pages.specs.Pages.{Pages}
 use Rattle.execution.specs.declared.Stop.{Stop}
 use Rattle.execution.specs.declared.Stop.the-variants.{Unlisted as UnlistedByte, UnlistedFd, Halted}
@@ -34,11 +35,11 @@ stop-number (UnlistedByte v) = omega arith
 stop-number (UnlistedFd v) = omega arith
 stop-number Halted = omega arith
 
-run-number : (n key : ℕ) (m : Lh5801) (p : Pages)
-    → (endNumber (runOf n key m p .told .end) ≡ 0) ⊎ (5 ≤ endNumber (runOf n key m p .told .end))
+run-number : (n : ℕ) (inputs : Inputs) (m : Lh5801) (p : Pages)
+    → (endNumber (runOf n inputs m p .told .end) ≡ 0) ⊎ (5 ≤ endNumber (runOf n inputs m p .told .end))
 unfolding noStep completed
-run-number n key =
-    run-each key (λ n m p o. (endNumber (o .told .end) ≡ 0) ⊎ (5 ≤ endNumber (o .told .end)))
+run-number n inputs =
+    run-each inputs (λ n m p o. (endNumber (o .told .end) ≡ 0) ⊎ (5 ≤ endNumber (o .told .end)))
     (λ m p. inl refl)
     (λ n m p s e. inr (stop-number s))
     (λ n m p k t kind e h. h)
@@ -76,7 +77,7 @@ module _ (s : Settings) (m : Lh5801) (p : Pages) where
   is-4 a b c d = rw (call-end s m p (entry-limit s m p a b c d))
 
   is-none : Accepted s m p → (callNumber s m p ≡ 0) ⊎ (5 ≤ callNumber s m p)
-  is-none h = rw (call-run s m p h) (run-number (s .limit) (s .keyboard) m p)
+  is-none h = rw (call-run s m p h) (run-number (s .limit) (s .inputs) m p)
 
   to-three : Entry s m p
       → ((callNumber s m p ≡ 1) ↔ Page0TooLong p)

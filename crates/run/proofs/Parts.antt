@@ -15,11 +15,11 @@ use Rattle.run.specs.declared.campaign_file.Parsed.{Parsed}
 use Rattle.run.specs.declared.campaign_file.Campaign.{Campaign}
 use Rattle.run.specs.declared.campaign_file.Refusal.{Refusal}
 use Rattle.run.specs.declared.campaign_file.Refusal.the-variants.{Ends, LeftOver}
-use Rattle.run.specs.CampaignFile.{Field, read, refused, Reader, onward, numberOf, registersOf, wordsOf, timingOf, settingsOf, bytesOf, pageOf, cpuOf, partsOf, ended, campaignOf, campaignAnswer}
+use Rattle.run.specs.CampaignFile.{Field, read, refused, Reader, onward, numberOf, registersOf, wordsOf, timingOf, askedOf, bytesOf, pageOf, cpuOf, partsOf, ended, campaignOf, campaignAnswer}
 use Rattle.run.specs.CampaignFile.{refusalNumber, refusalOffset}
 use Rattle.run.specs.Run.{callOf}
 use Rattle.run.specs.Line.{refusalLineOf, Printed}
-use Rattle.run.specs.Report.{pagesIn, toldLine, reportOf}
+use Rattle.run.specs.Report.{pagesIn, settingsIn, toldLine, reportOf}
 use Rattle.run.proofs.CampaignFile.Number.{number-within}
 
 -- one more byte copied
@@ -80,7 +80,7 @@ campaign-within bytes c n e =
     let r = then-read bytes (registersOf bytes 0) _ e in
     let w = then-read bytes (wordsOf bytes (r .next)) _ (r .after) in
     let t = then-read bytes (timingOf bytes (w .next)) _ (w .after) in
-    let s = then-read bytes (settingsOf bytes (t .next)) _ (t .after) in
+    let s = then-read bytes (askedOf bytes (t .next)) _ (t .after) in
     let p = then-read bytes (pageOf bytes (s .next)) _ (s .after) in
     let q = then-read bytes (pageOf bytes (p .next)) _ (p .after) in
     let whole : partsOf (cpuOf (r .value) (w .value) (t .value)) (s .value) (p .value) (q .value) ≡ c = last-read bytes (q .next) _ c n (q .after) in
@@ -110,7 +110,7 @@ module _ (bytes : List ℕ) {x : Campaign} (told : x ≡ campaignAnswer (campaig
   pub file-within : {c : Parsed} → x ≡ Campaign.Read c → PagesWithin bytes c
   file-within {c} g = let t = told-read (campaignOf bytes 0) told g in campaign-within bytes c (t .next) (t .is)
 
-  pub report-read : {c : Parsed} → x ≡ Campaign.Read c → reportOf bytes ≡ toldLine (callOf (c .settings) (c .cpu) (pagesIn bytes c) .told)
+  pub report-read : {c : Parsed} → x ≡ Campaign.Read c → reportOf bytes ≡ toldLine (callOf (settingsIn (c .asked)) (c .cpu) (pagesIn bytes c) .told)
   unfolding reportOf
   report-read g = rw (told-read (campaignOf bytes 0) told g .is)
 

@@ -14,12 +14,12 @@ use Rattle.run.specs.declared.campaign_file.Words.{Words}
 use Rattle.run.specs.declared.campaign_file.WordsRead.{WordsRead}
 use Rattle.run.specs.declared.campaign_file.Timing.{Timing}
 use Rattle.run.specs.declared.campaign_file.TimingRead.{TimingRead}
-use Rattle.run.specs.declared.campaign_file.SettingsRead.{SettingsRead}
+use Rattle.run.specs.declared.campaign_file.AskedRead.{AskedRead}
 use Rattle.run.specs.declared.campaign_file.Page.{Page}
 use Rattle.run.specs.declared.campaign_file.PageRead.{PageRead}
 use Rattle.run.specs.declared.campaign_file.Parsed.{Parsed}
 use Rattle.run.specs.declared.campaign_file.Campaign.{Campaign}
-use Rattle.run.specs.declared.Settings.{Settings}
+use Rattle.run.specs.declared.campaign_file.Asked.{Asked}
 use Rattle.arithmetic.specs.declared.record.Lh5801.{Lh5801}
 use Rattle.arithmetic.specs.Flags.{bitOf}
 
@@ -117,8 +117,8 @@ timingOf = do
   ticks ← numberOf (2 ^ 64 - 1)
   given (record { tm = tm; flags = flags; «timer_state» = states; «step_previous_state» = previous; ticks = ticks })
 
-unfoldable pub settingsOf : Reader Settings
-settingsOf = do
+unfoldable pub askedOf : Reader Asked
+askedOf = do
   keyboard ← numberOf 255
   limit ← numberOf (2 ^ 32 - 1)
   given (record { keyboard = keyboard; limit = limit })
@@ -161,10 +161,10 @@ cpuOf r w t = record {
   ticks = t .ticks;
 }
 
-abbrev pub partsOf : Lh5801 → Settings → Page → Page → Parsed
-partsOf cpu settings page0 page1 = record {
+abbrev pub partsOf : Lh5801 → Asked → Page → Page → Parsed
+partsOf cpu asked page0 page1 = record {
   cpu = cpu;
-  settings = settings;
+  asked = asked;
   «page0_at» = page0 .at;
   «page0_len» = page0 .len;
   «page1_at» = page1 .at;
@@ -181,10 +181,10 @@ campaignOf = do
   registers ← registersOf
   words ← wordsOf
   timing ← timingOf
-  settings ← settingsOf
+  asked ← askedOf
   page0 ← pageOf
   page1 ← pageOf
-  ended (partsOf (cpuOf registers words timing) settings page0 page1)
+  ended (partsOf (cpuOf registers words timing) asked page0 page1)
 
 -- ---- writing a campaign file
 
@@ -212,17 +212,17 @@ flagsOf m =
 -- what a campaign file says, with the bytes of its pages
 pub record Contents : Type 0 where
   pub cpu : Lh5801
-  pub settings : Settings
+  pub asked : Asked
   pub page0 : List ℕ
   pub page1 : List ℕ
 
-abbrev pub fieldsOf : Lh5801 → Settings → List ℕ
+abbrev pub fieldsOf : Lh5801 → Asked → List ℕ
 fieldsOf m s =
     m .a ∷ m .t ∷ m .x ∷ m .y ∷ m .u ∷ m .s ∷ m .p ∷ m .tm ∷ flagsOf m ∷ m .«timer_state» ∷ m .«step_previous_state» ∷ m .ticks ∷ s .keyboard ∷ s .limit ∷ []
 
 -- the file of these contents
 unfoldable pub written : Contents → List ℕ
-written c = numbersBytes (fieldsOf (c .cpu) (c .settings)) ++ (pageBytes (c .page0) ++ pageBytes (c .page1))
+written c = numbersBytes (fieldsOf (c .cpu) (c .asked)) ++ (pageBytes (c .page0) ++ pageBytes (c .page1))
 
 -- every field is at most its greatest value
 pub record Within (c : Contents) : Type 0 where
@@ -237,8 +237,8 @@ pub record Within (c : Contents) : Type 0 where
   pub states : c .cpu .«timer_state» ≤ 2 ^ 64 - 1
   pub previous : c .cpu .«step_previous_state» ≤ 2 ^ 64 - 1
   pub ticks : c .cpu .ticks ≤ 2 ^ 64 - 1
-  pub keyboard : c .settings .keyboard ≤ 255
-  pub limit : c .settings .limit ≤ 2 ^ 32 - 1
+  pub keyboard : c .asked .keyboard ≤ 255
+  pub limit : c .asked .limit ≤ 2 ^ 32 - 1
   pub page0 : length (c .page0) ≤ 16384
   pub page1 : length (c .page1) ≤ 16384
 
@@ -251,7 +251,7 @@ Bytes (byte ∷ bytes) = (byte < 256) × Bytes bytes
 abbrev pub contentsOf : List ℕ → Parsed → Contents
 contentsOf bytes c = record {
   cpu = c .cpu;
-  settings = c .settings;
+  asked = c .asked;
   page0 = take (c .«page0_len») (drop (c .«page0_at») bytes);
   page1 = take (c .«page1_len») (drop (c .«page1_at») bytes);
 }
@@ -299,13 +299,13 @@ abbrev pub timingStop : TimingRead → Refusal
 timingStop (TimingRead.Refused stop) = stop
 timingStop (TimingRead.Read value next) = Ends (next .at)
 
-unfoldable pub settingsAnswer : Field Settings → SettingsRead
-settingsAnswer (read value next) = SettingsRead.Read value (record { at = next })
-settingsAnswer (refused stop) = SettingsRead.Refused stop
+unfoldable pub askedAnswer : Field Asked → AskedRead
+askedAnswer (read value next) = AskedRead.Read value (record { at = next })
+askedAnswer (refused stop) = AskedRead.Refused stop
 
-abbrev pub settingsStop : SettingsRead → Refusal
-settingsStop (SettingsRead.Refused stop) = stop
-settingsStop (SettingsRead.Read value next) = Ends (next .at)
+abbrev pub askedStop : AskedRead → Refusal
+askedStop (AskedRead.Refused stop) = stop
+askedStop (AskedRead.Read value next) = Ends (next .at)
 
 unfoldable pub pageAnswer : Field Page → PageRead
 pageAnswer (read value next) = PageRead.Read value (record { at = next })

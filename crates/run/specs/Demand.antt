@@ -4,6 +4,7 @@ use mathlib.Core.List.{List, [], _∷_, map, flatten, getLast}
 use mathlib.Core.Path.{_≡_}
 use mathlib.Core.Logic.{_≢_}
 use Rattle.arithmetic.specs.declared.record.Lh5801.{Lh5801}
+use Rattle.execution.specs.declared.Inputs.{Inputs}
 use Rattle.pages.specs.Pages.{Pages, SameLength}
 use Rattle.pages.specs.Written.{Written, Agree}
 use Rattle.run.specs.declared.Settings.{Settings}
@@ -19,11 +20,11 @@ AtLeastOne [] = Unit {0}
 AtLeastOne (x ∷ xs) = (1 ≤ x) × AtLeastOne xs
 
 -- every call of the list is accepted
-unfoldable pub AllAccepted : List ℕ → ℕ → Lh5801 → Pages → Type 0
-AllAccepted [] key m p = Unit {0}
-AllAccepted (limit ∷ limits) key m p =
-    let x = callOf (settings key limit) m p in
-    Accepted (settings key limit) m p × AllAccepted limits key (x .told .cpu) (x .pages)
+unfoldable pub AllAccepted : List ℕ → Inputs → Lh5801 → Pages → Type 0
+AllAccepted [] inputs m p = Unit {0}
+AllAccepted (limit ∷ limits) inputs m p =
+    let x = callOf (settings inputs limit) m p in
+    Accepted (settings inputs limit) m p × AllAccepted limits inputs (x .told .cpu) (x .pages)
 
 -- the calls, from the pages q, tell and do what the run, from the pages p, does
 pub record SameAsRun (p q : Pages) (run : Outcome) (calls : List Outcome) : Type 0 where
@@ -53,5 +54,5 @@ Demand3 =
     → sum limits ≡ s .limit
     → (q : Pages)
     → SameLength p q
-    → Agree p q (accessesOf (s .limit) (s .keyboard) m p)
-    → AllAccepted limits (s .keyboard) m q × SameAsRun p q (callOf s m p) (callsOf limits (s .keyboard) m q)
+    → Agree p q (accessesOf (s .limit) (s .inputs) m p)
+    → AllAccepted limits (s .inputs) m q × SameAsRun p q (callOf s m p) (callsOf limits (s .inputs) m q)

@@ -11,6 +11,7 @@ use Rattle.arithmetic.specs.Marked.{Bytes, bytes}
 use Rattle.pages.specs.Pages.{Pages, pages}
 use Rattle.pages.specs.Prog.{Ran}
 use Rattle.pages.specs.Timer.{timerIncOf}
+use Rattle.execution.specs.Inputs.{ofKeyboard}
 use Rattle.execution.specs.Step.{StepEnd, did, instruction}
 use Rattle.run.specs.Run.{oneStep}
 use Rattle.run.specs.CampaignFile.{cpuOf}
@@ -41,7 +42,7 @@ shiftsOf zero m = []
 shiftsOf (suc n) m = timerIncOf m ∷ shiftsOf n (timerIncOf m)
 
 unfoldable pub toldOf : Question → Told
-toldOf (step m p) = endsOf (oneStep 0 m p)
+toldOf (step m p) = endsOf (oneStep (ofKeyboard 0) m p)
 toldOf (shifts n m) = records (shiftsOf n m)
 toldOf (file bytes) = line (reportOf bytes)
 

@@ -1,10 +1,9 @@
-// Document 01's campaign file: a record, the settings and the two pages of one call, as bytes.
+// Document 01's campaign file: a record, the asked and the two pages of one call, as bytes.
 // The reading place goes in by value, as a `Cursor`, and comes back; each field is either read with its next place or turned down.
 ghost use mathlib.Core.Path.{_≡_};
-ghost use Rattle.run.specs.CampaignFile.{judged, numberOf, registersOf, wordsOf, timingOf, settingsOf, pageOf, cpuOf, partsOf, campaignOf};
-ghost use Rattle.run.specs.CampaignFile.{refusalNumber, refusalOffset, numberAnswer, registersAnswer, wordsAnswer, timingAnswer, settingsAnswer, pageAnswer, campaignAnswer};
-ghost use Rattle.run.specs.CampaignFile.{numberStop, registersStop, wordsStop, timingStop, settingsStop, pageStop};
-use crate::Settings;
+ghost use Rattle.run.specs.CampaignFile.{judged, numberOf, registersOf, wordsOf, timingOf, askedOf, pageOf, cpuOf, partsOf, campaignOf};
+ghost use Rattle.run.specs.CampaignFile.{refusalNumber, refusalOffset, numberAnswer, registersAnswer, wordsAnswer, timingAnswer, askedAnswer, pageAnswer, campaignAnswer};
+ghost use Rattle.run.specs.CampaignFile.{numberStop, registersStop, wordsStop, timingStop, askedStop, pageStop};
 use arithmetic::record::Lh5801;
 
 // A place of the file.
@@ -67,8 +66,14 @@ pub enum TimingRead {
     Refused(Refusal),
 }
 
-pub enum SettingsRead {
-    Read(Settings, Cursor),
+// What the file asks of the call: its keyboard byte and its limit.
+pub struct Asked {
+    pub keyboard: u8,
+    pub limit: u32,
+}
+
+pub enum AskedRead {
+    Read(Asked, Cursor),
     Refused(Refusal),
 }
 
@@ -83,10 +88,10 @@ pub enum PageRead {
     Refused(Refusal),
 }
 
-// What a campaign file says: the record, the settings, and where the two pages' bytes are in the file.
+// What a campaign file says: the record, the asked, and where the two pages' bytes are in the file.
 pub struct Parsed {
     pub cpu: Lh5801,
-    pub settings: Settings,
+    pub asked: Asked,
     pub page0_at: usize,
     pub page0_len: usize,
     pub page1_at: usize,
@@ -170,14 +175,14 @@ impl TimingRead {
     }
 }
 
-impl SettingsRead {
+impl AskedRead {
     // The refusal to hand upward. An answer that has none gives the place after what was read, as a refusal.
     fn stop(self) -> Refusal
-        ensures { λ r. ⌜ r ≡ settingsStop self ⌝ }
+        ensures { λ r. ⌜ r ≡ askedStop self ⌝ }
     {
         match self {
-            SettingsRead::Refused(stop) => stop,
-            SettingsRead::Read(_, next) => Refusal::Ends(next.at),
+            AskedRead::Refused(stop) => stop,
+            AskedRead::Read(_, next) => Refusal::Ends(next.at),
         }
     }
 }
@@ -332,23 +337,23 @@ impl Cursor {
         TimingRead::Read(timing, c)
     }
 
-    pub fn settings(self, bytes: &[u8]) -> SettingsRead
-        ensures { λ r. ⌜ r ≡ settingsAnswer (settingsOf (now (bytes .entry)) (self .at)) ⌝ }
+    pub fn asked(self, bytes: &[u8]) -> AskedRead
+        ensures { λ r. ⌜ r ≡ askedAnswer (askedOf (now (bytes .entry)) (self .at)) ⌝ }
     {
         let c = self;
         let answer = c.number(bytes, 255);
         let Number::Read(keyboard, c) = answer else {
-            return SettingsRead::Refused(answer.stop());
+            return AskedRead::Refused(answer.stop());
         };
         let answer = c.number(bytes, 0xffff_ffff);
         let Number::Read(limit, c) = answer else {
-            return SettingsRead::Refused(answer.stop());
+            return AskedRead::Refused(answer.stop());
         };
-        let settings = Settings {
+        let asked = Asked {
             keyboard: keyboard as u8,
             limit: limit as u32,
         };
-        SettingsRead::Read(settings, c)
+        AskedRead::Read(asked, c)
     }
 
     // A page's length, then so many bytes.
@@ -398,12 +403,12 @@ pub fn cpu_of(r: Registers, w: Words, t: Timing) -> Lh5801
     }
 }
 
-fn parsed_of(cpu: Lh5801, settings: Settings, page0: Page, page1: Page) -> Parsed
-    ensures { λ r. ⌜ r ≡ partsOf cpu settings page0 page1 ⌝ }
+fn parsed_of(cpu: Lh5801, asked: Asked, page0: Page, page1: Page) -> Parsed
+    ensures { λ r. ⌜ r ≡ partsOf cpu asked page0 page1 ⌝ }
 {
     Parsed {
         cpu: cpu,
-        settings: settings,
+        asked: asked,
         page0_at: page0.at,
         page0_len: page0.len,
         page1_at: page1.at,
@@ -428,8 +433,8 @@ pub fn read_campaign(bytes: &[u8]) -> Campaign
     let TimingRead::Read(timing, c) = answer else {
         return Campaign::Refused(answer.stop());
     };
-    let answer = c.settings(bytes);
-    let SettingsRead::Read(settings, c) = answer else {
+    let answer = c.asked(bytes);
+    let AskedRead::Read(asked, c) = answer else {
         return Campaign::Refused(answer.stop());
     };
     let answer = c.page(bytes);
@@ -445,5 +450,5 @@ pub fn read_campaign(bytes: &[u8]) -> Campaign
         return Campaign::Refused(Refusal::LeftOver(at));
     }
     let cpu = cpu_of(registers, words, timing);
-    Campaign::Read(parsed_of(cpu, settings, page0, page1))
+    Campaign::Read(parsed_of(cpu, asked, page0, page1))
 }

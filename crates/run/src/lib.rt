@@ -6,10 +6,12 @@ ghost use Rattle.pages.specs.Contract.{atEntry, atExit};
 ghost use Rattle.execution.specs.Due.{dueOf};
 ghost use Rattle.run.specs.Entry.{endNumber, endByte};
 ghost use Rattle.run.specs.Run.{runOf, callOf};
-ghost use Rattle.run.specs.Leads.{Leads};
+ghost use Rattle.run.specs.declared.Ahead.the-variants.{Open, Stops};
+ghost use Rattle.run.specs.Leads.{led, unmovedOf, Leads};
 ghost use Rattle.run.specs.Answers.{Answers, answer, statesBetween};
 use arithmetic::record::Lh5801;
 use execution::Executed;
+use execution::Inputs;
 use execution::Outcome;
 
 pub mod campaign_file;
@@ -18,7 +20,7 @@ pub mod report;
 
 // What a call is given besides the record and the pages.
 pub struct Settings {
-    pub keyboard: u8,
+    pub inputs: Inputs,
     pub limit: u32,
 }
 
@@ -71,93 +73,116 @@ pub enum Ahead {
     Stops(execution::Stop),
 }
 
-// What steps led to: how many were completed, the record after them, and what comes next.
+// What a stretch of steps led to: how many of the call are now completed, the record after them, and what comes next.
 pub struct Led {
     pub steps: u32,
     pub cpu: Lh5801,
     pub ahead: Ahead,
 }
 
-// Instruction after instruction, for as long as nothing else can be due.
-fn instructions(cpu: Lh5801, page0: &mut [u8], page1: &mut [u8], keyboard: u8, most: u32) -> Led
-    requires { ⌜ (cpu .tm < 512) × (dueOf cpu ≡ true) × (0 < most) ⌝ }
-    ensures { λ r. ⌜ Leads keyboard most cpu (atEntry page0 page1) r (atExit page0 page1) ⌝ }
+// So many steps are completed, and any step may come.
+fn completed(steps: u32, cpu: Lh5801) -> Led
+    ensures { λ r. ⌜ r ≡ led steps cpu Open ⌝ }
 {
-    let mut current = execution::reached(cpu);
-    let mut steps: u32 = 0;
-    while steps < most {
-        let executed = execution::instruction(current, page0, page1, keyboard);
-        match executed {
-            Executed::Again(next) => {
-                current = next;
-                steps = steps + 1;
-            }
-            Executed::Completed(next) => {
-                return Led {
-                    steps: steps + 1,
-                    cpu: next,
-                    ahead: Ahead::Open,
-                };
-            }
-            Executed::Stopped(stop) => {
-                // The step that stops is undone whole: timer reached has not moved.
-                if steps == 0 {
-                    return Led {
-                        steps: 0,
-                        cpu: cpu,
-                        ahead: Ahead::Stops(stop),
-                    };
-                }
-                return Led {
-                    steps: steps,
-                    cpu: current,
-                    ahead: Ahead::Stops(stop),
-                };
-            }
-        }
-    }
     Led {
         steps: steps,
-        cpu: current,
+        cpu: cpu,
         ahead: Ahead::Open,
     }
 }
 
-// The next steps: instructions for as long as they are due, or one step of another kind.
-fn advance(cpu: Lh5801, page0: &mut [u8], page1: &mut [u8], keyboard: u8, most: u32) -> Led
-    requires { ⌜ (cpu .tm < 512) × (0 < most) ⌝ }
-    ensures { λ r. ⌜ Leads keyboard most cpu (atEntry page0 page1) r (atExit page0 page1) ⌝ }
+// So many steps are completed, and the next stops.
+fn stopped(steps: u32, cpu: Lh5801, stop: execution::Stop) -> Led
+    ensures { λ r. ⌜ r ≡ led steps cpu (Stops stop) ⌝ }
+{
+    Led {
+        steps: steps,
+        cpu: cpu,
+        ahead: Ahead::Stops(stop),
+    }
+}
+
+// The record before timer reached moved to IR1.
+fn unmoved(moved: Lh5801, before: Lh5801) -> Lh5801
+    ensures { λ r. ⌜ r ≡ unmovedOf moved before ⌝ }
+{
+    moved
+        .with_ir1(before.ir1)
+        .with_is_timer_reached(before.is_timer_reached)
+}
+
+// Instruction after instruction, for as long as nothing else can be due; so many steps were completed before.
+fn instructions(
+    cpu: Lh5801,
+    page0: &mut [u8],
+    page1: &mut [u8],
+    inputs: Inputs,
+    done: u32,
+    limit: u32,
+) -> Led
+    requires { ⌜ (cpu .tm < 512) × (dueOf cpu ≡ true) × (done < limit) ⌝ }
+    ensures { λ r. ⌜ Leads inputs done limit cpu (atEntry page0 page1) r (atExit page0 page1) ⌝ }
+{
+    let mut current = execution::reached(cpu);
+    let mut steps: u32 = done;
+    loop {
+        let executed = execution::instruction(current, page0, page1, inputs);
+        match executed {
+            Executed::Again(next) => {
+                current = next;
+                steps = steps + 1;
+                if limit <= steps {
+                    return completed(steps, current);
+                }
+            }
+            Executed::Completed(next) => {
+                return completed(steps + 1, next);
+            }
+            Executed::Stopped(stop) => {
+                // The step that stops is undone whole: timer reached has not moved.
+                if steps == done {
+                    return stopped(done, unmoved(current, cpu), stop);
+                }
+                return stopped(steps, current, stop);
+            }
+        }
+    }
+}
+
+// The next steps: instructions for as long as they are due, or one step of another kind; so many were completed before.
+fn advance(
+    cpu: Lh5801,
+    page0: &mut [u8],
+    page1: &mut [u8],
+    inputs: Inputs,
+    done: u32,
+    limit: u32,
+) -> Led
+    requires { ⌜ (cpu .tm < 512) × (done < limit) ⌝ }
+    ensures { λ r. ⌜ Leads inputs done limit cpu (atEntry page0 page1) r (atExit page0 page1) ⌝ }
 {
     if execution::due(cpu) {
-        return instructions(cpu, page0, page1, keyboard, most);
+        return instructions(cpu, page0, page1, inputs, done, limit);
     }
-    let outcome = execution::waits(cpu, page0, page1);
+    let outcome = execution::step_cpu(cpu, page0, page1, inputs);
     match outcome {
-        Outcome::Completed(next) => Led {
-            steps: 1,
-            cpu: next,
-            ahead: Ahead::Open,
-        },
-        Outcome::Stopped(stop) => Led {
-            steps: 0,
-            cpu: cpu,
-            ahead: Ahead::Stops(stop),
-        },
+        Outcome::Completed(next) => completed(done + 1, next),
+        Outcome::Stopped(stop) => stopped(done, cpu, stop),
     }
 }
 
 // Steps up to the limit, or to the first that stops.
-fn steps_of(cpu: Lh5801, page0: &mut [u8], page1: &mut [u8], keyboard: u8, limit: u32) -> Answer
+fn steps_of(cpu: Lh5801, page0: &mut [u8], page1: &mut [u8], inputs: Inputs, limit: u32) -> Answer
     requires { ⌜ (cpu .tm < 512) × (limit ≤ 1000000) ⌝ }
-    ensures { λ r. ⌜ Answers (runOf limit keyboard cpu (atEntry page0 page1)) r (atExit page0 page1) ⌝ }
+    ensures { λ r. ⌜ Answers (runOf limit inputs cpu (atEntry page0 page1)) r (atExit page0 page1) ⌝ }
 {
     let first = cpu.ticks;
     let mut current = cpu;
     let mut steps: u32 = 0;
     while steps < limit {
-        let led = advance(current, page0, page1, keyboard, limit - steps);
+        let led = advance(current, page0, page1, inputs, steps, limit);
         current = led.cpu;
-        steps = steps + led.steps;
+        steps = led.steps;
         let ahead = led.ahead;
         match ahead {
             Ahead::Open => {}
@@ -188,7 +213,8 @@ pub fn run(cpu: Lh5801, page0: &mut [u8], page1: &mut [u8], settings: Settings) 
     if 1000000 < settings.limit {
         return refused(cpu, End::Limit);
     }
-    steps_of(cpu, page0, page1, settings.keyboard, settings.limit)
+    let inputs = settings.inputs;
+    steps_of(cpu, page0, page1, inputs, settings.limit)
 }
 
 // Document 01's number of a call's end.

@@ -5,14 +5,16 @@ ghost use lib.ListN.{length, take, drop};
 ghost use Rattle.pages.specs.Pages.{pages};
 ghost use Rattle.run.specs.Run.{callOf};
 ghost use Rattle.run.specs.Line.{Printed};
-ghost use Rattle.run.specs.Report.{part, pagesIn, toldLine, reportOf};
+ghost use Rattle.run.specs.Report.{part, pagesIn, settingsIn, toldLine, reportOf};
 use crate::Answer;
 use crate::Settings;
 use crate::campaign_file;
+use crate::campaign_file::Asked;
 use crate::campaign_file::Campaign;
 use crate::campaign_file::Parsed;
 use crate::line;
 use arithmetic::record::Lh5801;
+use execution::Inputs;
 
 // The page's bytes, from a place of the file on, to the start of a buffer.
 fn copy_part(bytes: &[u8], at: usize, page: &mut [u8], len: usize)
@@ -41,18 +43,30 @@ fn run_parts(
     crate::run(cpu, &mut page0[..len0], &mut page1[..len1], settings)
 }
 
+// What a call is given by what a file asks.
+pub fn settings_of(asked: Asked) -> Settings
+    ensures { λ r. ⌜ r ≡ settingsIn asked ⌝ }
+{
+    let inputs = Inputs::of_keyboard(asked.keyboard);
+    Settings {
+        inputs: inputs,
+        limit: asked.limit,
+    }
+}
+
 // A file that was read: its run call.
 fn answer_of(bytes: &[u8], c: Parsed) -> Answer
     requires { ⌜ (c .«page0_at» + c .«page0_len» ≤ length (now bytes)) × (c .«page0_len» ≤ 16384) ⌝ }
     requires { ⌜ (c .«page1_at» + c .«page1_len» ≤ length (now bytes)) × (c .«page1_len» ≤ 16384) ⌝ }
-    ensures { λ r. ⌜ r ≡ callOf (c .settings) (c .cpu) (pagesIn (now (bytes .entry)) c) .told ⌝ }
+    ensures { λ r. ⌜ r ≡ callOf (settingsIn (c .asked)) (c .cpu) (pagesIn (now (bytes .entry)) c) .told ⌝ }
 {
     let mut page0 = [0u8; 16384];
     let mut page1 = [0u8; 16384];
     copy_part(bytes, c.page0_at, &mut page0, c.page0_len);
     copy_part(bytes, c.page1_at, &mut page1, c.page1_len);
     let cpu = c.cpu;
-    let settings = c.settings;
+    let asked = c.asked;
+    let settings = settings_of(asked);
     run_parts(
         cpu,
         &mut page0,

@@ -1,9 +1,10 @@
 use native.Mathlib.Omega.{arith}
+use mathlib.Core.Bool.{true, false}
 use mathlib.Core.Path.{_∙_, ap, sym}
 use Rattle.arithmetic.specs.Record.{with-p, with-timer-state, with-ticks}
 use Rattle.pages.specs.Timer.{addStateOf, timerPartOf}
 use Rattle.execution.proofs.Counters.{executed-small}
-use Rattle.execution.proofs.Order.{step-due, instruction-listed, instruction-unlisted}
+use Rattle.execution.proofs.Order.{step-due, instruction-settled, instruction-other, instruction-unlisted}
 use Rattle.execution.proofs.DueAgain.{again}
 use borrow.Author.Needs.{needs}
 use Rattle.execution.proofs.instruction.Statement.{statement}
@@ -11,28 +12,37 @@ use Rattle.execution.proofs.instruction.Tie as tie
 
 timer-part-requires : tie.Need-timer-part-requires
 unfolding addStateOf with-p with-timer-state with-ticks
-timer-part-requires c κs = rw (c .before .before .add-state .ensures) (executed-small _ _ _ (rw (c .before .before .before .before .before .before .before .before .before .before .with-p .ensures) (c .before .before .before .before .before .before .before .before .before .before .before .before .before .before .before .before .before .before .before .before .pre .0)) (c .before .before .before .before .before .before .before .execute .ensures))
+timer-part-requires c κs = rw (c .add-state .ensures) (executed-small _ _ _ (rw (c .before .before .before .before .before .before .before .before .before .before .with-p .ensures) (c .before .before .before .before .before .before .before .before .before .before .before .before .before .before .before .before .before .before .before .before .pre .0)) (c .before .before .before .before .before .before .before .execute .ensures))
 
 timer-part-requires-2 : tie.Need-timer-part-requires-2
 unfolding addStateOf with-p with-timer-state with-ticks
-timer-part-requires-2 c κs = rw (c .before .before .add-state .ensures) (executed-small _ _ _ (rw (c .before .before .before .before .before .before .before .before .before .before .with-p .ensures) (c .before .before .before .before .before .before .before .before .before .before .before .before .before .before .before .before .before .before .before .before .pre .0)) (c .before .before .before .before .before .before .before .execute .ensures))
+timer-part-requires-2 c κs = rw (c .add-state2 .ensures) (executed-small _ _ _ (rw (c .before .before .before .before .before .before .before .before .before .before .with-p .ensures) (c .before .before .before .before .before .before .before .before .before .before .before .before .before .before .before .before .before .before .before .before .pre .0)) (c .before .before .before .before .before .before .before .execute .ensures))
 
 returns : tie.Need-returns
-returns c = (rw (step-due (c .before .before .before .before .before .before .before .before .before .before .before .before .before .before .before .before .before .before .before .before .before .before .args .cpu) (c .before .before .before .before .before .before .before .before .before .before .before .before .before .before .before .before .before .before .before .before .before .before .args .keyboard) (c .before .before .before .before .before .before .before .before .before .before .before .before .before .before .before .before .before .before .before .before .before .before .pre .1)) (instruction-listed (c .before .before .before .before .before .before .before .before .before .before .before .before .before .before .before .before .before .before .before .before .before .before .args .cpu) (c .before .before .before .before .before .before .before .before .before .before .before .before .before .before .before .before .before .before .before .before .before .before .args .keyboard) (c .before .before .before .before .before .before .before .before .before .before .before .before .before .before .before .before .before .fetch .ensures) (sym (c .before .before .before .before .before .before .before .before .before .before .before .before .before .before .before .before .decode .ensures) ∙ c .before .before .before .before .before .before .before .before .before .before .before .before .before .before .i .given .1) (rw (c .before .before .before .before .before .before .before .before .before .before .before .before .with-p .ensures) at (c .before .before .before .before .before .before .before .before .before .execute .ensures)) (c .before .timer-part .ensures ∙ ap timerPartOf (c .before .before .before .before .add-state .ensures))), tt)
+returns c = (
+  rw (step-due (c .before .before .before .before .before .before .before .before .before .before .before .before .before .before .before .before .before .before .before .before .before .before .args .cpu) (c .before .before .before .before .before .before .before .before .before .before .before .before .before .before .before .before .before .before .before .before .before .before .args .inputs) (c .before .before .before .before .before .before .before .before .before .before .before .before .before .before .before .before .before .before .before .before .before .before .pre .1)) (instruction-settled (c .before .before .before .before .before .before .before .before .before .before .before .before .before .before .before .before .before .before .before .before .before .before .args .cpu) (c .before .before .before .before .before .before .before .before .before .before .before .before .before .before .before .before .before .before .before .before .before .before .args .inputs) true (c .before .before .before .before .before .before .before .before .before .before .before .before .before .before .before .before .before .fetch .ensures) (sym (c .before .before .before .before .before .before .before .before .before .before .before .before .before .before .before .before .decode .ensures) ∙ c .before .before .before .before .before .before .before .before .before .before .before .before .before .before .i .given .1) (rw (c .before .before .before .before .before .before .before .before .before .before .before .before .with-p .ensures) at (c .before .before .before .before .before .before .before .before .before .execute .ensures)) (c .before .timer-part .ensures ∙ ap timerPartOf (c .before .before .add-state .ensures)) (sym (c .before .before .before .before .settled .ensures) ∙ c .before .before .before .if1 .taken) (c .if2 .taken)),
+  tt,
+)
 
 returns-2 : tie.Need-returns-2
 returns-2 c = (
-  rw (step-due (c .before .before .before .before .before .before .before .before .before .before .before .before .before .before .before .before .before .before .before .before .before .before .args .cpu) (c .before .before .before .before .before .before .before .before .before .before .before .before .before .before .before .before .before .before .before .before .before .before .args .keyboard) (c .before .before .before .before .before .before .before .before .before .before .before .before .before .before .before .before .before .before .before .before .before .before .pre .1)) (instruction-listed (c .before .before .before .before .before .before .before .before .before .before .before .before .before .before .before .before .before .before .before .before .before .before .args .cpu) (c .before .before .before .before .before .before .before .before .before .before .before .before .before .before .before .before .before .before .before .before .before .before .args .keyboard) (c .before .before .before .before .before .before .before .before .before .before .before .before .before .before .before .before .before .fetch .ensures) (sym (c .before .before .before .before .before .before .before .before .before .before .before .before .before .before .before .before .decode .ensures) ∙ c .before .before .before .before .before .before .before .before .before .before .before .before .before .before .i .given .1) (rw (c .before .before .before .before .before .before .before .before .before .before .before .before .with-p .ensures) at (c .before .before .before .before .before .before .before .before .before .execute .ensures)) (c .before .timer-part .ensures ∙ ap timerPartOf (c .before .before .before .before .add-state .ensures))),
-  again (c .before .before .before .before .before .before .before .before .before .before .before .before .before .before .before .before .before .before .before .before .before .before .args .cpu) _ (c .before .before .before .before .before .before .before .before .before .before .before .before .before .before .before .before .before .before .before .before .before .before .args .keyboard) _ _ (omega (arith, c .before .before .before .before .before .before .before .before .before .before .before .before .before .before .before .before .before .before .before .before .before .before .good)) (sym (c .before .before .before .settled .ensures) ∙ c .before .before .if1 .taken) (c .before .before .before .before .before .before .before .before .before .before .before .before .before .before .before .before .before .before .before .before .before .before .pre .1) (rw (c .before .before .before .before .before .before .before .before .before .before .before .before .with-p .ensures) at (c .before .before .before .before .before .before .before .before .before .execute .ensures)) (c .before .before .before .before .add-state .ensures) (c .before .timer-part .ensures) (c .if2 .left),
+  rw (step-due (c .before .before .before .before .before .before .before .before .before .before .before .before .before .before .before .before .before .before .before .before .before .before .args .cpu) (c .before .before .before .before .before .before .before .before .before .before .before .before .before .before .before .before .before .before .before .before .before .before .args .inputs) (c .before .before .before .before .before .before .before .before .before .before .before .before .before .before .before .before .before .before .before .before .before .before .pre .1)) (instruction-settled (c .before .before .before .before .before .before .before .before .before .before .before .before .before .before .before .before .before .before .before .before .before .before .args .cpu) (c .before .before .before .before .before .before .before .before .before .before .before .before .before .before .before .before .before .before .before .before .before .before .args .inputs) false (c .before .before .before .before .before .before .before .before .before .before .before .before .before .before .before .before .before .fetch .ensures) (sym (c .before .before .before .before .before .before .before .before .before .before .before .before .before .before .before .before .decode .ensures) ∙ c .before .before .before .before .before .before .before .before .before .before .before .before .before .before .i .given .1) (rw (c .before .before .before .before .before .before .before .before .before .before .before .before .with-p .ensures) at (c .before .before .before .before .before .before .before .before .before .execute .ensures)) (c .before .timer-part .ensures ∙ ap timerPartOf (c .before .before .add-state .ensures)) (sym (c .before .before .before .before .settled .ensures) ∙ c .before .before .before .if1 .taken) (c .if2 .left)),
+  again (c .before .before .before .before .before .before .before .before .before .before .before .before .before .before .before .before .before .before .before .before .before .before .args .cpu) _ (c .before .before .before .before .before .before .before .before .before .before .before .before .before .before .before .before .before .before .before .before .before .before .args .inputs) _ _ (omega (arith, c .before .before .before .before .before .before .before .before .before .before .before .before .before .before .before .before .before .before .before .before .before .before .good)) (sym (c .before .before .before .before .settled .ensures) ∙ c .before .before .before .if1 .taken) (c .before .before .before .before .before .before .before .before .before .before .before .before .before .before .before .before .before .before .before .before .before .before .pre .1) (rw (c .before .before .before .before .before .before .before .before .before .before .before .before .with-p .ensures) at (c .before .before .before .before .before .before .before .before .before .execute .ensures)) (c .before .before .add-state .ensures) (c .before .timer-part .ensures) (c .if2 .left),
 )
 
 returns-3 : tie.Need-returns-3
-returns-3 c = (rw (step-due (c .before .before .before .before .before .before .before .before .before .before .before .before .before .before .before .before .before .before .before .before .before .args .cpu) (c .before .before .before .before .before .before .before .before .before .before .before .before .before .before .before .before .before .before .before .before .before .args .keyboard) (c .before .before .before .before .before .before .before .before .before .before .before .before .before .before .before .before .before .before .before .before .before .pre .1)) (instruction-listed (c .before .before .before .before .before .before .before .before .before .before .before .before .before .before .before .before .before .before .before .before .before .args .cpu) (c .before .before .before .before .before .before .before .before .before .before .before .before .before .before .before .before .before .before .before .before .before .args .keyboard) (c .before .before .before .before .before .before .before .before .before .before .before .before .before .before .before .before .fetch .ensures) (sym (c .before .before .before .before .before .before .before .before .before .before .before .before .before .before .before .decode .ensures) ∙ c .before .before .before .before .before .before .before .before .before .before .before .before .before .i .given .1) (rw (c .before .before .before .before .before .before .before .before .before .before .before .with-p .ensures) at (c .before .before .before .before .before .before .before .before .execute .ensures)) (c .timer-part2 .ensures ∙ ap timerPartOf (c .before .before .before .add-state .ensures))), tt)
+returns-3 c = (
+  rw (step-due (c .before .before .before .before .before .before .before .before .before .before .before .before .before .before .before .before .before .before .before .before .before .args .cpu) (c .before .before .before .before .before .before .before .before .before .before .before .before .before .before .before .before .before .before .before .before .before .args .inputs) (c .before .before .before .before .before .before .before .before .before .before .before .before .before .before .before .before .before .before .before .before .before .pre .1)) (instruction-other (c .before .before .before .before .before .before .before .before .before .before .before .before .before .before .before .before .before .before .before .before .before .args .cpu) (c .before .before .before .before .before .before .before .before .before .before .before .before .before .before .before .before .before .before .before .before .before .args .inputs) (c .before .before .before .before .before .before .before .before .before .before .before .before .before .before .before .before .fetch .ensures) (sym (c .before .before .before .before .before .before .before .before .before .before .before .before .before .before .before .decode .ensures) ∙ c .before .before .before .before .before .before .before .before .before .before .before .before .before .i .given .1) (rw (c .before .before .before .before .before .before .before .before .before .before .before .with-p .ensures) at (c .before .before .before .before .before .before .before .before .execute .ensures)) (c .timer-part2 .ensures ∙ ap timerPartOf (c .before .add-state2 .ensures)) (sym (c .before .before .before .settled .ensures) ∙ c .before .before .if1 .left)),
+  tt,
+)
 
 returns-4 : tie.Need-returns-4
-returns-4 c = (rw (step-due (c .before .before .before .before .before .before .before .before .before .args .cpu) (c .before .before .before .before .before .before .before .before .before .args .keyboard) (c .before .before .before .before .before .before .before .before .before .pre .1)) (instruction-unlisted (c .before .before .before .before .before .before .before .before .before .args .cpu) (c .before .before .before .before .before .before .before .before .before .args .keyboard) (c .before .before .before .before .fetch .ensures) (sym (c .before .before .before .decode .ensures) ∙ c .before .enum-told .given .1) (c .unlisted .ensures)), tt)
+returns-4 c = (rw (step-due (c .before .before .before .before .before .before .before .before .before .args .cpu) (c .before .before .before .before .before .before .before .before .before .args .inputs) (c .before .before .before .before .before .before .before .before .before .pre .1)) (instruction-unlisted (c .before .before .before .before .before .before .before .before .before .args .cpu) (c .before .before .before .before .before .before .before .before .before .args .inputs) (c .before .before .before .before .fetch .ensures) (sym (c .before .before .before .decode .ensures) ∙ c .before .enum-told .given .1) (c .unlisted .ensures)), tt)
 
 pub instruction-spec : {M : Type 1} → statement M
 instruction-spec =
     tie.close
-    (tie.spec (λ c κs. search needs) (λ c κs. search needs) (λ c. search needs) (λ c κs. search needs) (λ c κs. search needs) (λ c κs. search needs) (λ c κs. search needs) timer-part-requires timer-part-requires-2 (λ c. search needs) (λ c κs. search needs) (λ c. search needs) (λ c. search needs) returns (λ c. search needs) (λ c. search needs) returns-2 (λ c. search needs) (λ c. search needs) returns-3 (λ c. search needs) (λ c. search needs) returns-4)
+    (tie.spec (λ c κs. search needs) (λ c κs. search needs) (λ c. search needs) (λ c κs. search needs) (λ c κs. search needs) (λ c κs. search needs)
+    (λ c κs. search needs) timer-part-requires (λ c κs. search needs) timer-part-requires-2 (λ c. search needs) (λ c κs. search needs)
+    (λ c. search needs) (λ c. search needs) returns (λ c. search needs) (λ c. search needs) returns-2
+    (λ c. search needs) (λ c. search needs) returns-3 (λ c. search needs) (λ c. search needs) returns-4)

@@ -1,13 +1,13 @@
 use mathlib.Core.Path.{sym}
-use Rattle.execution.proofs.Order.{chosen-first, chosen-second}
+use Rattle.execution.proofs.Tests.{cond-true, cond-false}
 use Rattle.execution.proofs.vector_of.Statement.{statement}
 use Rattle.execution.proofs.vector_of.Tie as tie
 
 returns : tie.Need-returns
-returns c = sym (chosen-first 0xFFFA 0xFFF8 (c .if1 .taken))
+returns c = sym (cond-true _ 0xFFFA 0xFFF8 (c .if1 .taken))
 
 returns-2 : tie.Need-returns-2
-returns-2 c = sym (chosen-second 0xFFFA 0xFFF8 (c .if1 .left))
+returns-2 c = sym (cond-false _ 0xFFFA 0xFFF8 (c .if1 .left))
 
 pub vector-of-spec : {M : Type 1} → statement M
 vector-of-spec = tie.close (tie.spec returns returns-2)

@@ -11,14 +11,14 @@ use lib.Dec.{leb, ltb, eqb}
 use borrow.Author.Tests.{ltb-false, leb-true, leb-false, eqb-false, lt-ltb, le-ltb, ne-eqb}
 use Rattle.arithmetic.specs.Flags.{bitOf}
 use Rattle.run.specs.CampaignFile.{Groups, ends, over, whole, group, groups, groupsOf, Field, read, refused, Reader, onward, shortestOf, numberOf, numberBytes, numbersBytes, pageBytes, Bytes}
-use Rattle.run.specs.CampaignFile.{registersOf, wordsOf, timingOf, settingsOf, bytesOf, pageOf, flagsOf, cpuOf, partsOf, ended, campaignOf, Contents, written, Within, contentsOf, contentsField, contents}
+use Rattle.run.specs.CampaignFile.{registersOf, wordsOf, timingOf, askedOf, bytesOf, pageOf, flagsOf, cpuOf, partsOf, ended, campaignOf, Contents, written, Within, contentsOf, contentsField, contents}
 use Rattle.run.specs.declared.campaign_file.Refusal.the-variants.{Ends, LeftOver}
 use Rattle.run.specs.declared.campaign_file.Registers.{Registers}
 use Rattle.run.specs.declared.campaign_file.Words.{Words}
 use Rattle.run.specs.declared.campaign_file.Timing.{Timing}
 use Rattle.run.specs.declared.campaign_file.Page.{Page}
 use Rattle.run.specs.declared.campaign_file.Parsed.{Parsed}
-use Rattle.run.specs.declared.Settings.{Settings}
+use Rattle.run.specs.declared.campaign_file.Asked.{Asked}
 use Rattle.run.proofs.CampaignFile.Number.{never, number-read, groups-within}
 use Rattle.run.proofs.CampaignFile.InTurn.{two, five, reading}
 
@@ -267,16 +267,16 @@ timing-took bytes at r next bs e =
     (λ tm flags states previous ticks. record { tm = tm; flags = flags; «timer_state» = states; «step_previous_state» = previous; ticks = ticks }) bytes at r next bs e in
     subst (λ (m : Timing). TimingTook bytes at m next) (o .made) (record { took = o .took; tm = o .fits-v; flags = o .fits-w; states = o .fits-x; previous = o .fits-y; ticks = o .fits-z })
 
-record SettingsTook (bytes : List ℕ) (at : ℕ) (r : Settings) (next : ℕ) : Type 0 where
+record AskedTook (bytes : List ℕ) (at : ℕ) (r : Asked) (next : ℕ) : Type 0 where
   took : Took bytes at (numbersBytes (r .keyboard ∷ r .limit ∷ [])) next
   keyboard : r .keyboard ≤ 255
   limit : r .limit ≤ 2 ^ 32 - 1
 
-settings-took : (bytes : List ℕ) (at : ℕ) (r : Settings) (next : ℕ) → Bytes bytes → settingsOf bytes at ≡ read r next → SettingsTook bytes at r next
-unfolding settingsOf
-settings-took bytes at r next bs e =
+asked-took : (bytes : List ℕ) (at : ℕ) (r : Asked) (next : ℕ) → Bytes bytes → askedOf bytes at ≡ read r next → AskedTook bytes at r next
+unfolding askedOf
+asked-took bytes at r next bs e =
     let o = two-took 255 (2 ^ 32 - 1) (λ keyboard limit. record { keyboard = keyboard; limit = limit }) bytes at r next bs e in
-    subst (λ (m : Settings). SettingsTook bytes at m next) (o .made) (record { took = o .took; keyboard = o .fits-v; limit = o .fits-w })
+    subst (λ (m : Asked). AskedTook bytes at m next) (o .made) (record { took = o .took; keyboard = o .fits-v; limit = o .fits-w })
 
 -- a page: its bytes are those of the file at its place
 abbrev bytesAt : List ℕ → Page → List ℕ
@@ -370,8 +370,8 @@ record Accepted (bytes : List ℕ) (c : Parsed) (next : ℕ) : Type 0 where
   within : Within (contentsOf bytes c)
   all : next ≡ length bytes
 
-file-is : (bytes : List ℕ) (r : Registers) (w : Words) (t : Timing) (s : Settings) (p0 p1 : Page) (n1 n2 n3 n4 n5 n6 : ℕ)
-    → RegistersTook bytes 0 r n1 → WordsTook bytes n1 w n2 → TimingTook bytes n2 t n3 → SettingsTook bytes n3 s n4 → PageTook bytes n4 p0 n5 → PageTook bytes n5 p1 n6
+file-is : (bytes : List ℕ) (r : Registers) (w : Words) (t : Timing) (s : Asked) (p0 p1 : Page) (n1 n2 n3 n4 n5 n6 : ℕ)
+    → RegistersTook bytes 0 r n1 → WordsTook bytes n1 w n2 → TimingTook bytes n2 t n3 → AskedTook bytes n3 s n4 → PageTook bytes n4 p0 n5 → PageTook bytes n5 p1 n6
     → length bytes ≤ n6 → Accepted bytes (partsOf (cpuOf r w t) s p0 p1) n6
 unfolding cpuOf written
 file-is bytes r w t s p0 p1 n1 n2 n3 n4 n5 n6 tr tw ti ts t0 t1 h = record {
@@ -417,7 +417,7 @@ accepted bytes c next bs e =
     let o1 = onward-read bytes (registersOf bytes 0) _ c next e in
     let o2 = onward-read bytes (wordsOf bytes (o1 .place)) _ c next (o1 .then) in
     let o3 = onward-read bytes (timingOf bytes (o2 .place)) _ c next (o2 .then) in
-    let o4 = onward-read bytes (settingsOf bytes (o3 .place)) _ c next (o3 .then) in
+    let o4 = onward-read bytes (askedOf bytes (o3 .place)) _ c next (o3 .then) in
     let o5 = onward-read bytes (pageOf bytes (o4 .place)) _ c next (o4 .then) in
     let o6 = onward-read bytes (pageOf bytes (o5 .place)) _ c next (o5 .then) in
     let l = ended-read (partsOf (cpuOf (o1 .value) (o2 .value) (o3 .value)) (o4 .value) (o5 .value) (o6 .value)) bytes (o6 .place) c next (o6 .then) in
@@ -426,7 +426,7 @@ accepted bytes c next bs e =
     (registers-took bytes 0 (o1 .value) (o1 .place) bs (o1 .was))
     (words-took bytes (o1 .place) (o2 .value) (o2 .place) bs (o2 .was))
     (timing-took bytes (o2 .place) (o3 .value) (o3 .place) bs (o3 .was))
-    (settings-took bytes (o3 .place) (o4 .value) (o4 .place) bs (o4 .was))
+    (asked-took bytes (o3 .place) (o4 .value) (o4 .place) bs (o4 .was))
     (page-took bytes (o4 .place) (o5 .value) (o5 .place) bs (o5 .was))
     (page-took bytes (o5 .place) (o6 .value) (o6 .place) bs (o6 .was))
     (l .all))

@@ -2,9 +2,9 @@
 -- Assumes nothing.
 use Prim.Native.Nat.{ℕ}
 use mathlib.Core.Path.{_≡_, refl, ap, sym, _∙_}
-use Rattle.run.specs.CampaignFile.{Field, read, refused, numberAnswer, registersAnswer, wordsAnswer, timingAnswer, settingsAnswer, pageAnswer}
-use Rattle.run.specs.CampaignFile.{numberStop, registersStop, wordsStop, timingStop, settingsStop, pageStop}
-use Rattle.run.specs.declared.Settings.{Settings}
+use Rattle.run.specs.CampaignFile.{Field, read, refused, numberAnswer, registersAnswer, wordsAnswer, timingAnswer, askedAnswer, pageAnswer}
+use Rattle.run.specs.CampaignFile.{numberStop, registersStop, wordsStop, timingStop, askedStop, pageStop}
+use Rattle.run.specs.declared.campaign_file.Asked.{Asked}
 use Rattle.run.specs.declared.campaign_file.Refusal.{Refusal}
 use Rattle.run.specs.declared.campaign_file.Number.{Number}
 use Rattle.run.specs.declared.campaign_file.Registers.{Registers}
@@ -13,7 +13,7 @@ use Rattle.run.specs.declared.campaign_file.Words.{Words}
 use Rattle.run.specs.declared.campaign_file.WordsRead.{WordsRead}
 use Rattle.run.specs.declared.campaign_file.Timing.{Timing}
 use Rattle.run.specs.declared.campaign_file.TimingRead.{TimingRead}
-use Rattle.run.specs.declared.campaign_file.SettingsRead.{SettingsRead}
+use Rattle.run.specs.declared.campaign_file.AskedRead.{AskedRead}
 use Rattle.run.specs.declared.campaign_file.Page.{Page}
 use Rattle.run.specs.declared.campaign_file.PageRead.{PageRead}
 
@@ -79,17 +79,17 @@ pub timing-stopped : {f : Field Timing} {x : TimingRead} {s r : Refusal} → x �
 unfolding timingAnswer
 timing-stopped {f} {x} {s} = stopped timingAnswer timingField (λ a n. refl) (λ s. refl) f x (TimingRead.Refused s) timingStop refl
 
-abbrev pub settingsField : SettingsRead → Field Settings
-settingsField (SettingsRead.Read value next) = read value (next .at)
-settingsField (SettingsRead.Refused stop) = refused stop
+abbrev pub askedField : AskedRead → Field Asked
+askedField (AskedRead.Read value next) = read value (next .at)
+askedField (AskedRead.Refused stop) = refused stop
 
-pub settings-told : {f : Field Settings} {x y : SettingsRead} → x ≡ settingsAnswer f → x ≡ y → f ≡ settingsField y
-unfolding settingsAnswer
-settings-told {f} {x} {y} = told settingsAnswer settingsField (λ a n. refl) (λ s. refl) f x y
+pub asked-told : {f : Field Asked} {x y : AskedRead} → x ≡ askedAnswer f → x ≡ y → f ≡ askedField y
+unfolding askedAnswer
+asked-told {f} {x} {y} = told askedAnswer askedField (λ a n. refl) (λ s. refl) f x y
 
-pub settings-stopped : {f : Field Settings} {x : SettingsRead} {s r : Refusal} → x ≡ settingsAnswer f → x ≡ SettingsRead.Refused s → r ≡ settingsStop x → f ≡ refused r
-unfolding settingsAnswer
-settings-stopped {f} {x} {s} = stopped settingsAnswer settingsField (λ a n. refl) (λ s. refl) f x (SettingsRead.Refused s) settingsStop refl
+pub asked-stopped : {f : Field Asked} {x : AskedRead} {s r : Refusal} → x ≡ askedAnswer f → x ≡ AskedRead.Refused s → r ≡ askedStop x → f ≡ refused r
+unfolding askedAnswer
+asked-stopped {f} {x} {s} = stopped askedAnswer askedField (λ a n. refl) (λ s. refl) f x (AskedRead.Refused s) askedStop refl
 
 abbrev pub pageField : PageRead → Field Page
 pageField (PageRead.Read value next) = read value (next .at)

@@ -12,13 +12,13 @@ use lib.Seq.{drop-at, take-at}
 use lib.Dec.{ltb, eqb}
 use borrow.Author.Tests.{lt-ltb, le-ltb, le-leb, lt-leb, ne-eqb}
 use Rattle.run.specs.CampaignFile.{whole, groups, groupsOf, read, Reader, _>>=_, given, shortestOf, numberOf, numberBytes, numbersBytes, pageBytes}
-use Rattle.run.specs.CampaignFile.{registersOf, wordsOf, timingOf, settingsOf, bytesOf, pageOf, flagsOf, cpuOf, partsOf, ended, campaignOf, Contents, written, Within, contents}
+use Rattle.run.specs.CampaignFile.{registersOf, wordsOf, timingOf, askedOf, bytesOf, pageOf, flagsOf, cpuOf, partsOf, ended, campaignOf, Contents, written, Within, contents}
 use Rattle.run.specs.declared.campaign_file.Registers.{Registers}
 use Rattle.run.specs.declared.campaign_file.Words.{Words}
 use Rattle.run.specs.declared.campaign_file.Timing.{Timing}
 use Rattle.run.specs.declared.campaign_file.Page.{Page}
 use Rattle.run.specs.declared.campaign_file.Parsed.{Parsed}
-use Rattle.run.specs.declared.Settings.{Settings}
+use Rattle.run.specs.declared.campaign_file.Asked.{Asked}
 use Rattle.arithmetic.specs.declared.record.Lh5801.{Lh5801}
 use Rattle.arithmetic.specs.Flags.{bitOf}
 use Rattle.run.proofs.CampaignFile.Groups.{lt-or-ge}
@@ -165,9 +165,9 @@ timing-back t at h1 h2 h3 h4 h5 =
     (field-back _ (2 ^ 64 - 1) (t .«step_previous_state») h4 (omega arith)
     (field-back _ (2 ^ 64 - 1) (t .ticks) h5 (omega arith) (given-back _ t)))))
 
-settings-back : (s : Settings) (at : ℕ) → s .keyboard ≤ 255 → s .limit ≤ 2 ^ 32 - 1 → ReadsBack settingsOf at (numbersBytes (s .keyboard ∷ s .limit ∷ [])) s
-unfolding settingsOf
-settings-back s at h1 h2 =
+asked-back : (s : Asked) (at : ℕ) → s .keyboard ≤ 255 → s .limit ≤ 2 ^ 32 - 1 → ReadsBack askedOf at (numbersBytes (s .keyboard ∷ s .limit ∷ [])) s
+unfolding askedOf
+asked-back s at h1 h2 =
     field-back _ 255 (s .keyboard) h1 (omega arith) (field-back _ (2 ^ 32 - 1) (s .limit) h2 (omega arith) (given-back _ s))
 
 -- where a page's bytes begin, after its length
@@ -276,7 +276,7 @@ module _ (c : Contents) where
   partT = numbersBytes (c .cpu .tm ∷ flagsOf (c .cpu) ∷ c .cpu .«timer_state» ∷ c .cpu .«step_previous_state» ∷ c .cpu .ticks ∷ [])
 
   abbrev partS : List ℕ
-  partS = numbersBytes (c .settings .keyboard ∷ c .settings .limit ∷ [])
+  partS = numbersBytes (c .asked .keyboard ∷ c .asked .limit ∷ [])
 
   -- where the two pages' lengths begin
   abbrev start0 : ℕ
@@ -287,7 +287,7 @@ module _ (c : Contents) where
 
   abbrev pub parsedBack : Parsed
   parsedBack =
-      partsOf (cpuOf (registersOfCpu (c .cpu)) (wordsOfCpu (c .cpu)) (timingOfCpu (c .cpu))) (c .settings) (placeOf start0 (c .page0)) (placeOf start1 (c .page1))
+      partsOf (cpuOf (registersOfCpu (c .cpu)) (wordsOfCpu (c .cpu)) (timingOfCpu (c .cpu))) (c .asked) (placeOf start0 (c .page0)) (placeOf start1 (c .page1))
 
   in-parts : written c ≡ partR ++ (partW ++ (partT ++ (partS ++ (pageBytes (c .page0) ++ (pageBytes (c .page1) ++ [])))))
   unfolding written
@@ -307,7 +307,7 @@ module _ (c : Contents) where
       then-back-last _ (registers-back (registersOfCpu (c .cpu)) 0 (h .a) (h .t))
       (then-back-last _ (words-back (wordsOfCpu (c .cpu)) _ (h .x) (h .y) (h .u) (h .s) (h .p))
       (then-back-last _ (timing-back (timingOfCpu (c .cpu)) _ (h .tm) (flags-small (c .cpu)) (h .states) (h .previous) (h .ticks))
-      (then-back-last _ (settings-back (c .settings) _ (h .keyboard) (h .limit))
+      (then-back-last _ (asked-back (c .asked) _ (h .keyboard) (h .limit))
       (then-back-last _ (page-back start0 (c .page0) (h .page0))
       (then-back-last _ (page-back start1 (c .page1) (h .page1))
       (ended-back parsedBack _))))))

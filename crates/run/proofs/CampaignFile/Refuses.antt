@@ -12,7 +12,7 @@ use lib.Seq.{getD-drop}
 use lib.Dec.{leb, ltb, eqb}
 use borrow.Author.Tests.{ltb-true, ltb-false, leb-true, leb-false, eqb-true, eqb-false, lt-ltb, le-ltb, le-leb, lt-leb, ne-eqb}
 use Rattle.run.specs.CampaignFile.{Groups, ends, over, whole, group, groups, Field, read, refused, Reader, onward, _>>=_, given, shortestOf, numberFrom, numberOf}
-use Rattle.run.specs.CampaignFile.{registersOf, wordsOf, timingOf, settingsOf, bytesOf, pageOf, ended, campaignOf}
+use Rattle.run.specs.CampaignFile.{registersOf, wordsOf, timingOf, askedOf, bytesOf, pageOf, ended, campaignOf}
 use Rattle.run.specs.CampaignRefusals.{Kind, number, page, none, fields, fieldAt, Reached, start, after-number, after-page, EndsInside, OverTen, UnfitAt, over-ten, not-shortest, above, Stopped, ends-in-number, ends-in-page, unfit, left-over}
 use Rattle.run.specs.declared.campaign_file.Refusal.{Refusal}
 use Rattle.run.specs.declared.campaign_file.Refusal.the-variants.{Ends, Unfit, LeftOver}
@@ -200,13 +200,13 @@ timing-goes : (bytes : List ℕ) → Goes bytes timingOf 7 (Somewhere bytes 12)
 unfolding timingOf
 timing-goes bytes = field-goes _ 7 4095 refl (λ a. field-goes _ 8 511 refl (λ b. field-goes _ 9 (2 ^ 64 - 1) refl (λ c. field-goes _ 10 (2 ^ 64 - 1) refl (λ d. field-goes _ 11 (2 ^ 64 - 1) refl (λ e. given-goes _)))))
 
-settings-stops : (bytes : List ℕ) → Stops bytes settingsOf 12
-unfolding settingsOf
-settings-stops bytes = field-stops _ 12 255 refl (λ a. field-stops _ 13 (2 ^ 32 - 1) refl (λ b. given-stops _))
+asked-stops : (bytes : List ℕ) → Stops bytes askedOf 12
+unfolding askedOf
+asked-stops bytes = field-stops _ 12 255 refl (λ a. field-stops _ 13 (2 ^ 32 - 1) refl (λ b. given-stops _))
 
-settings-goes : (bytes : List ℕ) → Goes bytes settingsOf 12 (Somewhere bytes 14)
-unfolding settingsOf
-settings-goes bytes = field-goes _ 12 255 refl (λ a. field-goes _ 13 (2 ^ 32 - 1) refl (λ b. given-goes _))
+asked-goes : (bytes : List ℕ) → Goes bytes askedOf 12 (Somewhere bytes 14)
+unfolding askedOf
+asked-goes bytes = field-goes _ 12 255 refl (λ a. field-goes _ 13 (2 ^ 32 - 1) refl (λ b. given-goes _))
 
 -- a page: its length, then its bytes
 module _ (bytes : List ℕ) (k : ℕ) (is : fieldAt k ≡ number 16384) (then : fieldAt (suc k) ≡ page) where
@@ -262,7 +262,7 @@ campaign-stops bytes =
     then-stops _ (registers-stops bytes) (registers-goes bytes) (λ r.
     then-stops _ (words-stops bytes) (words-goes bytes) (λ w.
     then-stops _ (timing-stops bytes) (timing-goes bytes) (λ t.
-    then-stops _ (settings-stops bytes) (settings-goes bytes) (λ s.
+    then-stops _ (asked-stops bytes) (asked-goes bytes) (λ s.
     then-stops _ (page-stops bytes 14 refl refl) (page-goes bytes 14 refl refl) (λ p.
     then-stops _ (page-stops bytes 16 refl refl) (page-goes bytes 16 refl refl) (λ q.
     ended-stops bytes _))))))
@@ -387,7 +387,7 @@ campaign-goes bytes =
     then-goes _ (registers-goes bytes) (λ r.
     then-goes _ (words-goes bytes) (λ w.
     then-goes _ (timing-goes bytes) (λ t.
-    then-goes _ (settings-goes bytes) (λ s.
+    then-goes _ (asked-goes bytes) (λ s.
     then-goes _ (page-goes bytes 14 refl refl) (λ p.
     then-goes _ (page-goes bytes 16 refl refl) (λ q.
     ended-goes bytes _))))))

@@ -7,7 +7,7 @@ use mathlib.Core.List.{List, [], _∷_, _++_}
 use lib.ListN.{replicate}
 use lib.Dec.{T, eqb}
 use Rattle.arithmetic.specs.declared.record.Lh5801.{Lh5801}
-use Rattle.run.specs.CampaignFile.{Field, read, refused, refusalNumber, refusalOffset, numberOf, registersOf, wordsOf, timingOf, settingsOf, bytesOf, pageOf, flagsOf, cpuOf, ended, campaignOf, Contents, contents, written, numberBytes}
+use Rattle.run.specs.CampaignFile.{Field, read, refused, refusalNumber, refusalOffset, numberOf, registersOf, wordsOf, timingOf, askedOf, bytesOf, pageOf, flagsOf, cpuOf, ended, campaignOf, Contents, contents, written, numberBytes}
 use Rattle.run.specs.Line.{decimalOf, hexOf, lineOf}
 use Rattle.run.specs.declared.campaign_file.Parsed.{Parsed}
 
@@ -41,13 +41,13 @@ workedContents = record {
     «step_previous_state» = 0;
     ticks = 0;
   };
-  settings = record { keyboard = 0; limit = 10 };
+  asked = record { keyboard = 0; limit = 10 };
   page0 = 0xB5 ∷ 0x15 ∷ 0xF9 ∷ 0x8C ∷ 0x31 ∷ 0x27 ∷ [];
   page1 = [];
 }
 
 worked-read : contents worked ≡ read workedContents 22
-unfolding contents campaignOf registersOf wordsOf timingOf settingsOf pageOf bytesOf numberOf cpuOf ended worked workedContents
+unfolding contents campaignOf registersOf wordsOf timingOf askedOf pageOf bytesOf numberOf cpuOf ended worked workedContents
 worked-read = refl
 
 worked-written : written workedContents ≡ worked
@@ -142,5 +142,5 @@ all-told [] = true
 all-told (c ∷ cs) = told c (campaignOf (c .bytes) 0) && all-told cs
 
 turned-down : T (all-told cases)
-unfolding all-told told cases campaignOf registersOf wordsOf timingOf settingsOf pageOf bytesOf numberOf ended
+unfolding all-told told cases campaignOf registersOf wordsOf timingOf askedOf pageOf bytesOf numberOf ended
 turned-down = tt

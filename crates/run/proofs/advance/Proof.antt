@@ -7,16 +7,18 @@ use Rattle.run.proofs.advance.Tie as tie
 instructions-requires : tie.Need-instructions-requires
 instructions-requires c κs = (c .before .before .before .before .before .before .pre .0, sym (c .before .before .before .due .ensures) ∙ c .before .before .if1 .taken, c .before .before .before .before .before .before .pre .1)
 
-waits-requires : tie.Need-waits-requires
-waits-requires c κs = (c .before .before .before .before .before .before .pre .0, sym (c .before .before .before .due .ensures) ∙ c .before .before .if1 .left)
+step-cpu-requires : tie.Need-step-cpu-requires
+step-cpu-requires c κs = (c .before .before .before .before .before .before .pre .0, sym (c .before .before .before .due .ensures) ∙ c .before .before .if1 .left)
 
 returns-2 : tie.Need-returns-2
-returns-2 c = one-did (c .before .before .before .before .before .before .before .before .before .before .before .before .before .before .pre .1) (c .before .before .before .before .before .before .before .before .before .before .before .before .before .before .pre .0) (rw (c .before .outcome .given .1) at (c .before .before .before .before .before .before .before .waits .ensures (c .before .before .before .before .before .before .before .before .before .before .before .before .before .before .args .keyboard)))
+returns-2 c = rw (c .completed .ensures) (one-did (c .before .before .before .before .before .before .before .before .before .before .before .before .before .before .before .pre .1) (c .before .before .before .before .before .before .before .before .before .before .before .before .before .before .before .pre .0) (rw (c .before .before .outcome .given .1) at (c .before .before .before .before .before .before .before .before .step-cpu .ensures)))
 
 returns-3 : tie.Need-returns-3
-returns-3 c = one-stops (c .before .before .before .before .before .before .before .before .before .before .before .before .before .before .pre .1) (rw (c .before .outcome2 .given .1) at (c .before .before .before .before .before .before .before .waits .ensures (c .before .before .before .before .before .before .before .before .before .before .before .before .before .before .args .keyboard)))
+returns-3 c = rw (c .stopped .ensures) (one-stops (c .before .before .before .before .before .before .before .before .before .before .before .before .before .before .before .pre .1) (rw (c .before .before .outcome2 .given .1) at (c .before .before .before .before .before .before .before .before .step-cpu .ensures)))
 
 pub advance-spec : {M : Type 1} → statement M
 advance-spec =
     tie.close
-    (tie.spec (λ c κs. search needs) instructions-requires (λ c. search needs) (λ c. search needs) (λ c. search needs) waits-requires (λ c. search needs) (λ c. search needs) (λ c. search needs) (λ c. search needs) returns-2 (λ c. search needs) (λ c. search needs) returns-3)
+    (tie.spec (λ c κs. search needs) instructions-requires (λ c. search needs) (λ c. search needs) (λ c. search needs) step-cpu-requires
+    (λ c. search needs) (λ c. search needs) (λ c κs. search needs) (λ c. search needs) (λ c κs. search needs)
+    (λ c. search needs) (λ c. search needs) returns-2 (λ c. search needs) (λ c. search needs) returns-3)

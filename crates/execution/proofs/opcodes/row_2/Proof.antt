@@ -1,7 +1,7 @@
 use mathlib.Core.List.{[], _∷_}
 use mathlib.Core.Path.{refl}
 use native.Mathlib.Omega.{arith}
-use lib.ListN.{getD, drop}
+use lib.ListN.{getD, take, drop}
 use Rattle.execution.specs.Chain.{chained}
 use Rattle.execution.specs.Opcodes.{rows}
 use Rattle.execution.proofs.Table.{passed-over}
@@ -10,7 +10,7 @@ use Rattle.execution.proofs.opcodes.row_2.Statement.{statement}
 use Rattle.execution.proofs.opcodes.row_2.Tie as tie
 
 unlisted : tie.Need-returns-17
-unlisted c = passed-over (getD rows 2 []) (drop 3 rows) 2 (15 ∷ 14 ∷ 13 ∷ 12 ∷ 11 ∷ 10 ∷ 9 ∷ 8 ∷ 7 ∷ 6 ∷ 5 ∷ 4 ∷ 3 ∷ 2 ∷ 1 ∷ 0 ∷ []) (c .before .before .args .byte) (omega arith) (omega arith) tt refl (c .before .match .rest) (c .row-3 .ensures)
+unlisted c = passed-over (getD rows 2 []) (drop 3 (take 8 rows)) 2 (15 ∷ 14 ∷ 13 ∷ 12 ∷ 11 ∷ 10 ∷ 9 ∷ 8 ∷ 7 ∷ 6 ∷ 5 ∷ 4 ∷ 3 ∷ 2 ∷ 1 ∷ 0 ∷ []) (c .before .before .args .byte) (omega arith) (omega arith) tt refl (c .before .match .rest) (c .row-3 .ensures)
 
 pub row-2-spec : {M : Type 1} → statement M
 unfolding chained

@@ -1,7 +1,7 @@
 use mathlib.Core.List.{[], _∷_}
 use mathlib.Core.Path.{refl}
 use native.Mathlib.Omega.{arith}
-use lib.ListN.{getD, drop}
+use lib.ListN.{getD, take, drop}
 use Rattle.execution.specs.Chain.{chained}
 use Rattle.execution.specs.Opcodes.{rows}
 use Rattle.execution.proofs.Table.{passed-over}
@@ -10,7 +10,7 @@ use Rattle.execution.proofs.opcodes.row_3.Statement.{statement}
 use Rattle.execution.proofs.opcodes.row_3.Tie as tie
 
 unlisted : tie.Need-returns-6
-unlisted c = passed-over (getD rows 3 []) (drop 4 rows) 3 (8 ∷ 6 ∷ 4 ∷ 2 ∷ 0 ∷ []) (c .before .before .args .byte) (omega arith) (omega arith) tt refl (c .before .match .rest) (c .row-4 .ensures)
+unlisted c = passed-over (getD rows 3 []) (drop 4 (take 8 rows)) 3 (8 ∷ 6 ∷ 4 ∷ 2 ∷ 0 ∷ []) (c .before .before .args .byte) (omega arith) (omega arith) tt refl (c .before .match .rest) (c .row-4 .ensures)
 
 pub row-3-spec : {M : Type 1} → statement M
 unfolding chained

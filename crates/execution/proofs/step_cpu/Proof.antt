@@ -1,19 +1,19 @@
 use mathlib.Core.Path.{_∙_}
 use Rattle.execution.proofs.Order.{reached-tm, reached-bf, reached-clear, reached-due, step-reached, step-off}
 use borrow.Author.Needs.{needs}
-use Rattle.execution.proofs.waits.Statement.{statement}
-use Rattle.execution.proofs.waits.Tie as tie
+use Rattle.execution.proofs.step_cpu.Statement.{statement}
+use Rattle.execution.proofs.step_cpu.Tie as tie
 
 held-requires : tie.Need-held-requires
 held-requires c κs = rw (c .before .before .reached .ensures) (rw (reached-tm (c .before .before .before .before .before .before .args .cpu)) (c .before .before .before .before .before .before .pre .0), reached-bf (c .before .before .before .before .before .before .args .cpu) ∙ c .before .before .before .if1 .taken, reached-clear (c .before .before .before .before .before .before .args .cpu), reached-due (c .before .before .before .before .before .before .args .cpu) ∙ c .before .before .before .before .before .before .pre .1)
 
 returns : tie.Need-returns
-returns c = λ key. rw (← step-reached (c .before .before .before .before .before .before .before .before .before .before .before .args .cpu) key (c .before .before .before .before .before .before .before .before .if1 .taken)) (rw (c .before .before .before .before .before .before .before .reached .ensures) at (c .before .before .before .before .held .ensures key))
+returns c = rw (← step-reached (c .before .before .before .before .before .before .before .before .before .before .before .args .cpu) (c .before .before .before .before .before .before .before .before .before .before .before .args .inputs) (c .before .before .before .before .before .before .before .before .if1 .taken)) (rw (c .before .before .before .before .before .before .before .reached .ensures) at (c .before .before .before .before .held .ensures))
 
 returns-2 : tie.Need-returns-2
-returns-2 c = λ key. step-off (c .before .before .before .before .args .cpu) key (c .before .if1 .left) (c .add-state .ensures)
+returns-2 c = step-off (c .before .before .before .before .args .cpu) (c .before .before .before .before .args .inputs) (c .before .if1 .left) (c .add-state .ensures)
 
-pub waits-spec : {M : Type 1} → statement M
-waits-spec =
+pub step-cpu-spec : {M : Type 1} → statement M
+step-cpu-spec =
     tie.close
     (tie.spec (λ c κs. search needs) held-requires (λ c κs. search needs) (λ c. search needs) (λ c. search needs) returns returns-2)

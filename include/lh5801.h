@@ -19,19 +19,21 @@
  *         4  LH5801_U          16 bits
  *         5  LH5801_S          stack pointer, 16 bits
  *         6  LH5801_P          program counter, 16 bits
- *         7  LH5801_TM         timer value, 16 bits; a value above 511 is answered with 3
+ *         7  LH5801_TM         timer value, 0 to 511; a larger one is answered with 3
  *         8  LH5801_FLAGS      9 bits, LH5801_HALTED to LH5801_TIMER_REACHED below
  *         9  LH5801_TIMER      timer states, 64 bits
- *        10  LH5801_PREVIOUS   timer states at the timer's last shift, 64 bits
+ *        10  LH5801_PREVIOUS   timer states at the timer's last shift, or where CDV (FD 8E) set it
+ *                              since, 64 bits
  *        11  LH5801_TICKS      ticks, 64 bits
  *        12  LH5801_NUMBER     why the call ended, 0 to 7
  *        13  LH5801_BYTE       the unlisted byte where the number is 5 or 6, else 0
  *        14  LH5801_STEPS      completed steps
  *        15  LH5801_STATES     the sum of their states
  *
- * A word above its field's width counts modulo the width: A and T modulo 256, X, Y, U, S, P and TM
- * modulo 65,536; of the flags the nine lowest bits count. What comes back is never above the width.
- * So TM 65,536 is 0 and is accepted, and TM 512 is 512 and is answered with 3.
+ * A word above its field's width counts modulo the width: A and T modulo 256, X, Y, U, S and P
+ * modulo 65,536; of the flags the nine lowest bits count. A TM above 65,535 counts as 65,535, so it
+ * is too large, and is answered with 3. What comes back is never above the width: TM has 16 bits
+ * there, the byte 8, the steps 32, the states 64.
  *
  * The pages
  *

@@ -76,7 +76,7 @@ impl Pc1500 {
 
 /// What a run call tells beside the record and the pages.
 #[derive(Clone, Copy, Debug, Default, PartialEq, Eq)]
-pub struct Told {
+pub struct Returned {
     pub number: u8,
     pub byte: u8,
     pub steps: u64,
@@ -123,22 +123,22 @@ impl Pc1500 {
 
     /// Document 01's run call. The entry's stops, 5, 6 and 7 are this harness's own.
     #[inline(never)]
-    pub fn original_run<W: Watch>(&mut self, limit: u32, watch: &mut W) -> Told {
+    pub fn original_run<W: Watch>(&mut self, limit: u32, watch: &mut W) -> Returned {
         let lengths = [self.page0.len(), self.page1.len()];
         if let Some(number) = entry_stop(lengths, self.lh5801.record().tm, limit) {
-            return Told { number, ..Told::default() };
+            return Returned { number, ..Returned::default() };
         }
         let listed = listed();
         let first = self.lh5801.timer_state();
         for steps in 0..limit {
             if let Some((number, byte)) = self.stop(listed, watch) {
                 let states = self.lh5801.timer_state().wrapping_sub(first) as u64;
-                return Told { number, byte, steps: u64::from(steps), states };
+                return Returned { number, byte, steps: u64::from(steps), states };
             }
             self.step_cpu();
         }
         let states = self.lh5801.timer_state().wrapping_sub(first) as u64;
-        Told { number: 0, byte: 0, steps: u64::from(limit), states }
+        Returned { number: 0, byte: 0, steps: u64::from(limit), states }
     }
 
     /// The stop of the step that begins now, and its byte.

@@ -79,7 +79,7 @@ impl Reader<'_> {
         Ok(record)
     }
 
-    /// A page's length and its bytes. A page that is cut short is told where its bytes begin.
+    /// A page's length and its bytes. A page that is cut short is returned where its bytes begin.
     fn page(&mut self) -> Result<Vec<u8>, Defect> {
         let length = self.number(GREATEST_CAMPAIGN_PAGE)? as usize;
         let begin = self.place;
@@ -158,7 +158,7 @@ mod tests {
         0xB5, 0x15, 0xF9, 0x8C, 0x31, 0x27, 0x00,
     ];
 
-    fn told(bytes: &[u8]) -> (u8, usize) {
+    fn returned(bytes: &[u8]) -> (u8, usize) {
         let Defect { number, offset } = read(bytes).expect_err("the file has a defect");
         (number, offset)
     }
@@ -183,30 +183,30 @@ mod tests {
 
     #[test]
     fn an_end_comes_before_everything_that_is_judged_later() {
-        assert_eq!(told(&[]), (8, 0));
-        assert_eq!(told(&[0xFF, 0xFF]), (8, 0));
-        assert_eq!(told(&[0x80]), (8, 0));
-        assert_eq!(told(&[0x80; 9]), (8, 0));
-        assert_eq!(told(&[0x05]), (8, 1));
+        assert_eq!(returned(&[]), (8, 0));
+        assert_eq!(returned(&[0xFF, 0xFF]), (8, 0));
+        assert_eq!(returned(&[0x80]), (8, 0));
+        assert_eq!(returned(&[0x80; 9]), (8, 0));
+        assert_eq!(returned(&[0x05]), (8, 1));
     }
 
     #[test]
     fn numbers_are_judged_after_their_last_group() {
-        assert_eq!(told(&[0x80, 0x00]), (9, 0));
-        assert_eq!(told(&[0x80, 0x02]), (9, 0));
-        assert_eq!(told(&[0x80; 10]), (9, 0));
-        assert_eq!(told(&[0x00, 0xFF, 0x02]), (9, 1));
-        assert_eq!(told(&up_to(TM, &[0x80, 0x20])), (9, TM));
-        assert_eq!(told(&up_to(FLAGS, &[0x80, 0x04])), (9, FLAGS));
-        assert_eq!(told(&up_to(LIMIT, &[0x80, 0x80, 0x80, 0x80, 0x10])), (9, LIMIT));
+        assert_eq!(returned(&[0x80, 0x00]), (9, 0));
+        assert_eq!(returned(&[0x80, 0x02]), (9, 0));
+        assert_eq!(returned(&[0x80; 10]), (9, 0));
+        assert_eq!(returned(&[0x00, 0xFF, 0x02]), (9, 1));
+        assert_eq!(returned(&up_to(TM, &[0x80, 0x20])), (9, TM));
+        assert_eq!(returned(&up_to(FLAGS, &[0x80, 0x04])), (9, FLAGS));
+        assert_eq!(returned(&up_to(LIMIT, &[0x80, 0x80, 0x80, 0x80, 0x10])), (9, LIMIT));
     }
 
     #[test]
     fn a_64_bit_number_has_1_in_its_tenth_group() {
         let nine = [0xFF; 9];
-        assert_eq!(told(&up_to(TIMER, &[&nine[..], &[0x02]].concat())), (9, TIMER));
-        assert_eq!(told(&up_to(TIMER, &[&nine[..], &[0x7F]].concat())), (9, TIMER));
-        assert_eq!(told(&up_to(TIMER, &[&nine[..], &[0x81]].concat())), (9, TIMER));
+        assert_eq!(returned(&up_to(TIMER, &[&nine[..], &[0x02]].concat())), (9, TIMER));
+        assert_eq!(returned(&up_to(TIMER, &[&nine[..], &[0x7F]].concat())), (9, TIMER));
+        assert_eq!(returned(&up_to(TIMER, &[&nine[..], &[0x81]].concat())), (9, TIMER));
         let rest = [0x00, 0x00, 0x00, 0x01, 0x00, 0x00];
         let call = read(&up_to(TIMER, &[&nine[..], &[0x01], &rest].concat())).unwrap();
         assert_eq!(call.record.timer_state, u64::MAX);
@@ -214,12 +214,12 @@ mod tests {
 
     #[test]
     fn pages() {
-        assert_eq!(told(&up_to(PAGE_0, &[0x81, 0x80, 0x01])), (9, PAGE_0));
-        assert_eq!(told(&up_to(PAGE_0, &[0x80, 0x80, 0x01])), (8, PAGE_0 + 3));
-        assert_eq!(told(&up_to(PAGE_0, &[0x02, 0x00])), (8, PAGE_0 + 1));
-        assert_eq!(told(&up_to(PAGE_0, &[0x00])), (8, PAGE_0 + 1));
-        assert_eq!(told(&up_to(PAGE_0, &[0x00, 0x01])), (8, PAGE_0 + 2));
-        assert_eq!(told(&up_to(PAGE_0, &[0x00, 0x00, 0x00])), (10, PAGE_0 + 2));
+        assert_eq!(returned(&up_to(PAGE_0, &[0x81, 0x80, 0x01])), (9, PAGE_0));
+        assert_eq!(returned(&up_to(PAGE_0, &[0x80, 0x80, 0x01])), (8, PAGE_0 + 3));
+        assert_eq!(returned(&up_to(PAGE_0, &[0x02, 0x00])), (8, PAGE_0 + 1));
+        assert_eq!(returned(&up_to(PAGE_0, &[0x00])), (8, PAGE_0 + 1));
+        assert_eq!(returned(&up_to(PAGE_0, &[0x00, 0x01])), (8, PAGE_0 + 2));
+        assert_eq!(returned(&up_to(PAGE_0, &[0x00, 0x00, 0x00])), (10, PAGE_0 + 2));
     }
 
     #[test]

@@ -4,7 +4,7 @@
 
 use std::fmt::Write;
 
-use bare::Told;
+use bare::Returned;
 
 use crate::call::{Access, AccessKind, Answer, Call, Log, Record, Side};
 use crate::model::Model;
@@ -63,21 +63,21 @@ pub fn difference(left: &Answer, right: &Answer) -> Option<String> {
         }
     }
     let (number, byte, steps, states) = (left.number, left.byte, left.steps, left.states);
-    told_difference(&Told { number, byte, steps, states }, &left.record, right)
+    returned_difference(&Returned { number, byte, steps, states }, &left.record, right)
         .or_else(|| pages_difference(slices(&left.pages), slices(&right.pages)))
         .or_else(|| access_difference(left.log.as_ref()?, right.log.as_ref()?))
 }
 
-/// The first difference of what is told and of the end record.
-pub fn told_difference(told: &Told, record: &Record, right: &Answer) -> Option<String> {
+/// The first difference of what is returned and of the end record.
+pub fn returned_difference(returned: &Returned, record: &Record, right: &Answer) -> Option<String> {
     if let Some(message) = &right.failure {
         return Some(format!("failure: {message}"));
     }
     let numbers = [
-        ("number", u64::from(told.number), u64::from(right.number)),
-        ("byte", u64::from(told.byte), u64::from(right.byte)),
-        ("steps", told.steps, right.steps),
-        ("states", told.states, right.states),
+        ("number", u64::from(returned.number), u64::from(right.number)),
+        ("byte", u64::from(returned.byte), u64::from(right.byte)),
+        ("steps", returned.steps, right.steps),
+        ("states", returned.states, right.states),
     ];
     if let Some((name, left, right)) = numbers.iter().find(|(_, left, right)| left != right) {
         return Some(format!("{name}: {left} and {right}"));
@@ -230,13 +230,13 @@ pub fn report_smallest(comparison: &mut Comparison, call: Call) {
     let (original, other, difference) = comparison.both(&smallest);
     println!("smallest failing input found:");
     print!("{}", shrink::describe(&smallest));
-    println!("original: {}", told(&original));
-    println!("{}: {}", comparison.side.name(), told(&other));
+    println!("original: {}", returned(&original));
+    println!("{}: {}", comparison.side.name(), returned(&other));
     println!("first difference: {}", difference.unwrap_or_default());
 }
 
-/// An answer in one line: document 01's line, the byte and the accesses, where they are told.
-fn told(answer: &Answer) -> String {
+/// An answer in one line: document 01's line, the byte and the accesses, where they are returned.
+fn returned(answer: &Answer) -> String {
     let line = format!("{} byte {:02X}", answer.line(), answer.byte);
     let Some(log) = &answer.log else { return line };
     let accesses: Vec<String> = log.accesses.iter().take(40).map(Access::to_string).collect();

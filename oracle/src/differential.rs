@@ -11,7 +11,7 @@ use std::sync::atomic::{AtomicBool, AtomicU64, Ordering};
 use std::thread;
 use std::time::{Duration, Instant};
 
-use bare::{Lh5801, Pc1500, Told, Watch};
+use bare::{Lh5801, Pc1500, Returned, Watch};
 
 use crate::call::{Call, Record, Side};
 use crate::compare::{self, report_smallest, slices, Comparison};
@@ -76,19 +76,19 @@ impl Counts {
         }
     }
 
-    fn call(&mut self, record: &Record, told: &Told, lengths: [usize; 2]) {
+    fn call(&mut self, record: &Record, returned: &Returned, lengths: [usize; 2]) {
         self.calls += 1;
-        self.steps += told.steps;
-        self.stops[usize::from(told.number)] += 1;
-        if let 5 | 6 = told.number {
-            self.unlisted[usize::from(told.number - 5)][usize::from(told.byte)] += 1;
+        self.steps += returned.steps;
+        self.stops[usize::from(returned.number)] += 1;
+        if let 5 | 6 = returned.number {
+            self.unlisted[usize::from(returned.number - 5)][usize::from(returned.byte)] += 1;
         }
         self.code_edges += u64::from(at_edge(record.p, lengths[0]));
         self.stack_edges += u64::from(at_edge(record.s, lengths[0]));
         for (counts, length) in self.lengths.iter_mut().zip(lengths) {
             counts[[0, 65_536].iter().position(|edge| length == *edge).unwrap_or(2)] += 1;
         }
-        self.sizes[[0, 1, 20, 1000].iter().filter(|most| told.steps > **most).count()] += 1;
+        self.sizes[[0, 1, 20, 1000].iter().filter(|most| returned.steps > **most).count()] += 1;
     }
 
     /// Steps with BF set and IR0 clear: an instruction or an interrupt.
@@ -265,11 +265,11 @@ impl Session<'_> {
         if self.wanted == Some(self.calls) {
             return Err(Ended::Reached(Box::new(self.call(limit))));
         }
-        let told = self.compare(limit).map_err(|how| Ended::Differs(self.calls, how))?;
+        let returned = self.compare(limit).map_err(|how| Ended::Differs(self.calls, how))?;
         self.calls += 1;
-        self.steps += told.steps;
+        self.steps += returned.steps;
         self.record = self.machine.lh5801.record();
-        Ok(told.number == 0)
+        Ok(returned.number == 0)
     }
 
     /// The call that comes next, with its own pages.
@@ -279,15 +279,15 @@ impl Session<'_> {
     }
 
     /// Runs a call on both sides; tells the first difference.
-    fn compare(&mut self, limit: u32) -> Result<Told, String> {
+    fn compare(&mut self, limit: u32) -> Result<Returned, String> {
         let sampled = self.sampled && limit <= SAMPLE_LIMIT;
         let whole = sampled.then(|| Original.call(&self.call(limit)));
         self.machine.lh5801 = Lh5801::from_record(&self.record);
-        let told = self.machine.original_run(limit, self.counts);
+        let returned = self.machine.original_run(limit, self.counts);
         let keyboard = self.machine.keyboard.byte;
         let port = port::call(&self.record, keyboard, limit, &mut self.pages);
         let record = self.machine.lh5801.record();
-        if let Some(how) = compare::told_difference(&told, &record, &port) {
+        if let Some(how) = compare::returned_difference(&returned, &record, &port) {
             return Err(how);
         }
         let own = [&self.machine.page0[..], &self.machine.page1[..]];
@@ -296,14 +296,14 @@ impl Session<'_> {
         }
         if let Some(whole) = whole {
             self.counts.sampled += 1;
-            let told = compare::told_difference(&told, &record, &whole);
+            let returned = compare::returned_difference(&returned, &record, &whole);
             let pages = compare::pages_difference(own, slices(&whole.pages));
-            if let Some(how) = told.or(pages) {
+            if let Some(how) = returned.or(pages) {
                 return Err(format!("the original without and with its panics: {how}"));
             }
         }
-        self.counts.call(&self.record, &told, self.lengths);
-        Ok(told)
+        self.counts.call(&self.record, &returned, self.lengths);
+        Ok(returned)
     }
 
     /// Between two calls: sometimes another record.

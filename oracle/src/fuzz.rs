@@ -253,9 +253,9 @@ fn expected(file: &[u8]) -> Result<String, String> {
         return answer.failure.clone().map_or_else(|| Ok(answer.line()), Err);
     }
     let mut machine = Pc1500::new(&call.record, call.keyboard, call.pages);
-    let told = machine.original_run(call.limit, &mut ());
+    let returned = machine.original_run(call.limit, &mut ());
     let record = machine.lh5801.record();
-    Ok(format!("{} {} {} {record}", told.number, told.steps, told.states))
+    Ok(format!("{} {} {} {record}", returned.number, returned.steps, returned.states))
 }
 
 /// The number of a file's line, or how the port and the oracle differ on it.

@@ -293,11 +293,11 @@ fn agrees(call: &Call, expected: &Expected, answer: &Answer) -> bool {
             *place = *byte;
         }
     }
-    let mut told = Expected::of(answer);
+    let mut returned = Expected::of(answer);
     if answer.log.is_none() {
-        told.writes.clone_from(&expected.writes);
+        returned.writes.clone_from(&expected.writes);
     }
-    answer.failure.is_none() && told == *expected && answer.pages == pages
+    answer.failure.is_none() && returned == *expected && answer.pages == pages
 }
 
 #[cfg(test)]

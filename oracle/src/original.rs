@@ -231,7 +231,7 @@ impl Side for Original {
 mod tests {
     use super::{panicked, Original, Panicked, Pc1500};
     use crate::call::{Record, Side};
-    use crate::compare::{pages_difference, slices, told_difference};
+    use crate::compare::{pages_difference, returned_difference, slices};
     use crate::random::{self, Random};
 
     #[test]
@@ -250,8 +250,8 @@ mod tests {
             let call = random::call(&mut Random::new(11, index));
             let panics = Original.call(&call);
             let mut bare = bare::Pc1500::new(&call.record, call.keyboard, call.pages);
-            let told = bare.original_run(call.limit, &mut ());
-            assert_eq!(told_difference(&told, &bare.lh5801.record(), &panics), None);
+            let returned = bare.original_run(call.limit, &mut ());
+            assert_eq!(returned_difference(&returned, &bare.lh5801.record(), &panics), None);
             let pages = [bare.page0, bare.page1];
             assert_eq!(pages_difference(slices(&pages), slices(&panics.pages)), None);
         }

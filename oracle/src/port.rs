@@ -57,9 +57,12 @@ pub fn words(r: &Record) -> Words {
     [a, t, x, y, u, s, p, tm, flags, timer, previous, ticks, any, !any, any, !any]
 }
 
-/// Sets bits above the fields' widths: the entry takes a word modulo its width.
+/// The word of TM, which is not taken modulo its width: above 65,535 it counts as too large.
+const TM: usize = 7;
+
+/// Sets bits above the fields' widths: the entry takes a word modulo its width, but for TM.
 fn add_noise(words: &mut Words, noise: u64) {
-    for (i, width) in WIDTHS.into_iter().enumerate() {
+    for (i, width) in WIDTHS.into_iter().enumerate().filter(|(i, _)| *i != TM) {
         words[i] |= noise.rotate_left(7 * i as u32) >> width << width;
     }
 }
@@ -100,9 +103,9 @@ pub fn call(given: &Record, keyboard: u8, limit: u32, pages: &mut [Vec<u8>; 2]) 
     let [page0, page1] = pages;
     run(&mut words, page0, page1, keyboard, limit);
     let small = |word: u64| u8::try_from(word).map_err(|_| format!("not a byte: {word:X}"));
-    let told = record(&words).and_then(|r| Ok((r, small(words[12])?, small(words[13])?)));
+    let returned = record(&words).and_then(|r| Ok((r, small(words[12])?, small(words[13])?)));
     let (steps, states) = (words[14], words[15]);
-    match told {
+    match returned {
         Ok((record, number, byte)) => {
             Answer { number, byte, steps, states, record, ..Answer::default() }
         }
@@ -130,7 +133,7 @@ impl Side for Port {
 mod tests {
     use super::{add_noise, record, words};
     #[cfg(feature = "port")]
-    use super::{Call, Port, Side};
+    use super::{run, Call, Port, Side, TM};
     use crate::call::Record;
     #[cfg(feature = "port")]
     use crate::original::Original;
@@ -148,11 +151,24 @@ mod tests {
     fn noise_lies_above_the_widths_only() {
         let mut noisy = words(&Record::default());
         add_noise(&mut noisy, u64::MAX);
-        let low = [0xFF, 0xFF, 0xFFFF, 0xFFFF, 0xFFFF, 0xFFFF, 0xFFFF, 0xFFFF, 0x1FF];
+        let low = [0xFF, 0xFF, 0xFFFF, 0xFFFF, 0xFFFF, 0xFFFF, 0xFFFF, u64::MAX, 0x1FF];
         for (i, low) in low.into_iter().enumerate() {
             assert_eq!(noisy[i], u64::MAX - low);
         }
         assert!(record(&noisy).is_err());
+    }
+
+    /// A TM above its 16 bits is too large, and comes back as 65,535.
+    #[cfg(feature = "port")]
+    #[test]
+    fn tm_above_its_width() {
+        for tm in [65_536, 65_536 + 511, 1 << 32, u64::MAX] {
+            let mut given = words(&Record { bf: true, ..Record::default() });
+            given[TM] = tm;
+            run(&mut given, &mut [0x38; 6], &mut [], 0, 1);
+            assert_eq!(given[12], 3, "TM {tm}");
+            assert_eq!(given[TM], 65_535, "TM {tm}");
+        }
     }
 
     /// Marked case 13 of document 01.
@@ -194,7 +210,7 @@ mod tests {
         }
     }
 
-    /// A page above 65,536 bytes is told, page 0 first; up to there the run is made.
+    /// A page above 65,536 bytes is returned, page 0 first; up to there the run is made.
     #[cfg(feature = "port")]
     #[test]
     fn pages_above_the_greatest_length() {

@@ -13,7 +13,7 @@ use crate::port;
 use crate::progress::Progress;
 use crate::random::{self, Random};
 use crate::shrink;
-use bare::Told;
+use bare::Returned;
 
 /// The first access to a byte of a lent page.
 #[derive(Clone, Copy, PartialEq, Eq)]
@@ -25,7 +25,7 @@ enum First {
 
 /// What the original does over a whole list of calls.
 struct Course {
-    told: Told,
+    returned: Returned,
     record: Record,
     first: [Vec<First>; 2],
     /// The stored writes of completed steps, in order: page, offset, byte.
@@ -95,8 +95,8 @@ impl Course {
 /// The original over a list of calls.
 fn course(call: &Call, limits: &[u32]) -> Result<Course, String> {
     let first = [0, 1].map(|page: usize| vec![First::None; call.pages[page].len()]);
-    let (told, record) = (Told::default(), call.record);
-    let mut course = Course { told, record, first, writes: vec![], later_reads: 0, inside: 0 };
+    let (returned, record) = (Returned::default(), call.record);
+    let mut course = Course { returned, record, first, writes: vec![], later_reads: 0, inside: 0 };
     let mut next = call.clone();
     for limit in limits {
         next.limit = *limit;
@@ -104,9 +104,9 @@ fn course(call: &Call, limits: &[u32]) -> Result<Course, String> {
         if let Some(message) = answer.failure {
             return Err(format!("the original failed: {message}"));
         }
-        let Told { steps, states, .. } = course.told;
+        let Returned { steps, states, .. } = course.returned;
         let (steps, states) = (steps + answer.steps, states + answer.states);
-        course.told = Told { number: answer.number, byte: answer.byte, steps, states };
+        course.returned = Returned { number: answer.number, byte: answer.byte, steps, states };
         course.record = answer.record;
         course.add(&answer.log.unwrap_or_default());
         (next.record, next.pages) = (answer.record, answer.pages);
@@ -138,9 +138,9 @@ fn follow(
     let mut sum = last.ok_or("an empty list")?;
     (sum.steps, sum.states) = (steps, states);
     let expected = course.stored(pages);
-    let told = compare::told_difference(&course.told, &course.record, &sum);
+    let returned = compare::returned_difference(&course.returned, &course.record, &sum);
     let pages = || compare::pages_difference(slices(&expected), slices(&after));
-    told.or_else(pages).map_or(Ok(()), Err)
+    returned.or_else(pages).map_or(Ok(()), Err)
 }
 
 /// Another value for every byte that is not read first.
@@ -193,12 +193,12 @@ struct Counts {
 impl Counts {
     fn add(&mut self, course: &Course, lists: [&[u32]; 2], total: u32) {
         self.calls += lists.iter().map(|list| list.len() as u64).sum::<u64>();
-        self.steps += course.told.steps;
-        self.stops[usize::from(course.told.number)] += 1;
+        self.steps += course.returned.steps;
+        self.stops[usize::from(course.returned.number)] += 1;
         self.above_one_call += u64::from(total > GREATEST_LIMIT);
         let last_begins = lists.map(|list| u64::from(total - list[list.len() - 1]));
-        let stopped = course.told.number != 0;
-        let again = last_begins.iter().any(|begin| *begin > course.told.steps);
+        let stopped = course.returned.number != 0;
+        let again = last_begins.iter().any(|begin| *begin > course.returned.steps);
         self.after_stop += u64::from(stopped && again);
         let first = || course.first.iter().flatten();
         self.bytes += first().count() as u64;
@@ -368,7 +368,10 @@ mod tests {
         let pages = [vec![0x0E, 0x05, 0xFD, 0x00], vec![]];
         let call = Call { record, keyboard: 0, limit: 5, pages };
         let course = course(&call, &[1, 4]).unwrap();
-        assert_eq!((course.told.number, course.told.byte, course.told.steps), (6, 0, 2));
+        assert_eq!(
+            (course.returned.number, course.returned.byte, course.returned.steps),
+            (6, 0, 2)
+        );
         assert!(course.first[0].iter().all(|first| *first == First::Read));
         assert!(course.writes.is_empty());
     }

@@ -11,7 +11,7 @@ use std::panic::{catch_unwind, AssertUnwindSafe};
 use std::path::{Path, PathBuf};
 use std::time::Instant;
 
-use bare::{Lh5801, Pc1500, Told};
+use bare::{Lh5801, Pc1500, Returned};
 
 use crate::call::{Answer, Call, Record};
 use crate::campaign;
@@ -278,17 +278,17 @@ pub fn once(way: &str, file: &Path) -> Result<String, String> {
     }
     let mut machine = Pc1500::new(&call.record, call.keyboard, call.pages);
     if way == WAYS[ORIGINAL] {
-        let told = machine.original_run(call.limit, &mut ());
-        return Ok(line(told, machine.lh5801.record()));
+        let returned = machine.original_run(call.limit, &mut ());
+        return Ok(line(returned, machine.lh5801.record()));
     }
     let panicked = catch_unwind(AssertUnwindSafe(|| machine.bare_steps(call.limit)));
     panicked.map_err(|_| "the run stops, and the bare steps have no stops".to_string())?;
     let record = machine.lh5801.record();
     let states = record.timer_state.wrapping_sub(call.record.timer_state);
-    Ok(line(Told { steps: call.limit.into(), states, ..Told::default() }, record))
+    Ok(line(Returned { steps: call.limit.into(), states, ..Returned::default() }, record))
 }
 
-fn line(told: Told, record: Record) -> String {
-    let Told { number, byte, steps, states } = told;
+fn line(returned: Returned, record: Record) -> String {
+    let Returned { number, byte, steps, states } = returned;
     Answer { number, byte, steps, states, record, ..Answer::default() }.line()
 }

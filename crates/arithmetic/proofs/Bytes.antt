@@ -7,17 +7,13 @@ use lib.Bits.{bitAnd, bitXor}
 use lib.Dec.{T, eqb, eqb→eq, leb}
 use borrow.Author.Tests.{eq-eqb, ne-eqb}
 use Rattle.arithmetic.specs.Flags.{bitOf}
-use Rattle.arithmetic.specs.Shifts.{lopOf}
+use Rattle.arithmetic.specs.Shifts.{loopedOf}
 use Rattle.arithmetic.specs.declared.Looped.{Looped}
 use Rattle.arithmetic.proofs.Compute.{every, at}
 
 -- twice a byte, cut to a byte
 pub doubled : (b : ℕ) → b % 128 * 2 ≡ b * 2 % 256
 doubled b = omega arith
-
--- one less, wrapping, is the one byte that 1 added to wraps back
-pub down8 : {r n : ℕ} → r < 256 → (r + 1) % 2 ^ 8 ≡ n → r ≡ (n + 255) % 256
-down8 h e = omega arith
 
 -- a number below twice a power of two has at most one of it, and that is a flag
 overs : T (every (λ i. every (λ n. eqb (n / 2 ^ i) (bitOf (leb (2 ^ i) n))) 0 (2 * 2 ^ i)) 0 9)
@@ -65,8 +61,8 @@ bit-small false = omega arith
 looped : {u v : ℕ} {a b : Bool} → u ≡ v → a ≡ b → _≡_ {A = Looped} (record { u = u; again = a }) (record { u = v; again = b })
 looped e f = rw (e, f)
 
-pub lop-over : (u : ℕ) → u % 256 ≡ 0 → _≡_ {A = Looped} (record { u = u + 255; again = false }) (lopOf u)
+pub lop-over : (u : ℕ) → u % 256 ≡ 0 → _≡_ {A = Looped} (record { u = u + 255; again = false }) (loopedOf u)
 lop-over u e = looped (omega (arith, e)) (ap not (sym (eq-eqb (u % 256) 0 e)))
 
-pub lop-again : (u : ℕ) → (u % 256 ≡ 0 → ⊥) → _≡_ {A = Looped} (record { u = u - 1; again = true }) (lopOf u)
+pub lop-again : (u : ℕ) → (u % 256 ≡ 0 → ⊥) → _≡_ {A = Looped} (record { u = u - 1; again = true }) (loopedOf u)
 lop-again u h = looped (omega (arith, h)) (ap not (sym (ne-eqb (u % 256) 0 h)))

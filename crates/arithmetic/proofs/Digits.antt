@@ -5,10 +5,9 @@ use Prim.Native.Nat.{ℕ, _<_, _+_, _-_, _*_, _/_, _%_}
 use lib.Dec.{T, eqb, eqb→eq, leb, leb→le}
 use native.Mathlib.Omega.{arith}
 use borrow.Author.Tests.{le-leb, lt-leb}
-use Rattle.arithmetic.specs.declared.Sum.{Sum}
 use Rattle.arithmetic.specs.Flags.{CF, bitOf, hasFlag}
 use Rattle.arithmetic.specs.Sums.{total, addOf, inverted}
-use Rattle.arithmetic.specs.Decimal.{adjust, decimalOf, dcaSum, dcsSum, Digits, valueOf, DcaDigits, DcsDigits}
+use Rattle.arithmetic.specs.Decimal.{adjust, decimalSumOf, dcaSum, dcsSum, Digits, valueOf, DcaDigits, DcsDigits}
 use Rattle.arithmetic.proofs.Compute.{both, both-left, both-right, either, at-bool, every, at}
 use Rattle.arithmetic.proofs.Flags.{add-flags}
 
@@ -20,12 +19,12 @@ result : ℕ → ℕ → Bool → ℕ
 result l r c = (total l r c % 256 + adjust (reached l r c) (leb 16 (total (l % 16) (r % 16) c))) % 256
 
 module _ (t : ℕ) (small : t < 256) (l r : ℕ) (c : Bool) where
-  carry-is : hasFlag (decimalOf t l r c .t) CF ≡ reached l r c
-  unfolding decimalOf reached
+  carry-is : hasFlag (decimalSumOf t l r c .t) CF ≡ reached l r c
+  unfolding decimalSumOf reached
   carry-is = add-flags t small l r c .carry
 
-  value-is : decimalOf t l r c .value ≡ result l r c
-  unfolding decimalOf result reached addOf
+  value-is : decimalSumOf t l r c .value ≡ result l r c
+  unfolding decimalSumOf result reached addOf
   value-is = rw (add-flags t small l r c .carry, add-flags t small l r c .half)
 
 -- the byte that writes a number below 100
@@ -111,11 +110,11 @@ module _ (t a d : ℕ) (small : t < 256) (ha : Digits a) (hd : Digits d) where
   dca-digits =
       let c : Bool = hasFlag t CF in
       let l : ℕ = (a + 0x66) % 256 in
-      let value : decimalOf t l d c .value ≡ result l d c = value-is t small l d c in
-      let carry : hasFlag (decimalOf t l d c .t) CF ≡ reached l d c = carry-is t small l d c in
+      let value : decimalSumOf t l d c .value ≡ result l d c = value-is t small l d c in
+      let carry : hasFlag (decimalSumOf t l d c .t) CF ≡ reached l d c = carry-is t small l d c in
       let right = rw (written-back a ha, written-back d hd) at (at-digits dca-right dca-all) in
-      let digits : Digits (decimalOf t l d c .value) = rw value (valid-digits (result l d c) (both-left (valid (result l d c)) _ right)) in
-      let equation : valueOf (decimalOf t l d c .value) + 100 * bitOf (hasFlag (decimalOf t l d c .t) CF) ≡ valueOf a + valueOf d + bitOf c =
+      let digits : Digits (decimalSumOf t l d c .value) = rw value (valid-digits (result l d c) (both-left (valid (result l d c)) _ right)) in
+      let equation : valueOf (decimalSumOf t l d c .value) + 100 * bitOf (hasFlag (decimalSumOf t l d c .t) CF) ≡ valueOf a + valueOf d + bitOf c =
       rw (value, carry) (eqb→eq _ _ (both-right (valid (result l d c)) _ right)) in
       record {
         digits = digits;
@@ -129,15 +128,15 @@ module _ (t a d : ℕ) (small : t < 256) (ha : Digits a) (hd : Digits d) where
   dcs-digits =
       let c : Bool = hasFlag t CF in
       let r : ℕ = inverted d in
-      let value : decimalOf t a r c .value ≡ result a r c = value-is t small a r c in
-      let carry : hasFlag (decimalOf t a r c .t) CF ≡ reached a r c = carry-is t small a r c in
+      let value : decimalSumOf t a r c .value ≡ result a r c = value-is t small a r c in
+      let carry : hasFlag (decimalSumOf t a r c .t) CF ≡ reached a r c = carry-is t small a r c in
       let right = rw (written-back a ha, written-back d hd) at (at-digits dcs-right dcs-all) in
-      let digits : Digits (decimalOf t a r c .value) = rw value (valid-digits (result a r c) (both-left (valid (result a r c)) _ right)) in
-      let equation : valueOf (decimalOf t a r c .value) + valueOf d + 1 ≡ valueOf a + bitOf c + 100 * (1 - bitOf (hasFlag (decimalOf t a r c .t) CF)) =
+      let digits : Digits (decimalSumOf t a r c .value) = rw value (valid-digits (result a r c) (both-left (valid (result a r c)) _ right)) in
+      let equation : valueOf (decimalSumOf t a r c .value) + valueOf d + 1 ≡ valueOf a + bitOf c + 100 * (1 - bitOf (hasFlag (decimalSumOf t a r c .t) CF)) =
       rw (value, carry) (eqb→eq _ _ (both-right (valid (result a r c)) _ right)) in
       record {
         digits = digits;
         equation = equation;
-        value = difference-value (hasFlag (decimalOf t a r c .t) CF) _ _ _ (below-hundred _ digits) (below-hundred d hd) equation;
-        carry = difference-carry (hasFlag (decimalOf t a r c .t) CF) _ _ _ (below-hundred _ digits) (below-hundred d hd) equation;
+        value = difference-value (hasFlag (decimalSumOf t a r c .t) CF) _ _ _ (below-hundred _ digits) (below-hundred d hd) equation;
+        carry = difference-carry (hasFlag (decimalSumOf t a r c .t) CF) _ _ _ (below-hundred _ digits) (below-hundred d hd) equation;
       }

@@ -8,15 +8,15 @@ use lib.Bits.{bitAnd}
 use lib.Dec.{T, eqb, eqb→eq, leb}
 use Rattle.arithmetic.specs.Flags.{CF, IE, ZF, VF, HF, bitOf, pick, hasFlag, setFlag, checkZ, withFlags, FlagsAre, OnlyFlag}
 use Rattle.arithmetic.specs.Sums.{total, overflowOf, addOf, adrOf, AddFlags}
-use Rattle.arithmetic.specs.Decimal.{decimalOf}
+use Rattle.arithmetic.specs.Decimal.{decimalSumOf}
 use Rattle.arithmetic.specs.Logic.{ldaOf, ttaOf}
 use Rattle.arithmetic.specs.Record.{with-a, with-t}
 use Rattle.arithmetic.specs.declared.record.Lh5801.{Lh5801}
 use Rattle.arithmetic.proofs.Compute.{both, both-left, both-right, same, same-eq, either, at-bool, every, at}
 
 -- all that FlagsAre says, as a test
-told : ℕ → Bool → Bool → Bool → Bool → Bool
-told t c z v h =
+flags-hold : ℕ → Bool → Bool → Bool → Bool → Bool
+flags-hold t c z v h =
     let n : ℕ = withFlags t c z v h in
     both (same (hasFlag n CF) c)
     (both (same (hasFlag n ZF) z)
@@ -24,21 +24,21 @@ told t c z v h =
     (both (same (hasFlag n HF) h)
     (both (same (hasFlag n IE) (hasFlag t IE)) (eqb (n / 32) (t / 32))))))
 
-all-told : T (every (λ t. either (λ c. either (λ z. either (λ v. either (λ h. told t c z v h))))) 0 256)
-unfolding told withFlags
-all-told = tt
+all-flags-hold : T (every (λ t. either (λ c. either (λ z. either (λ v. either (λ h. flags-hold t c z v h))))) 0 256)
+unfolding flags-hold withFlags
+all-flags-hold = tt
 
 module _ (t : ℕ) (small : t < 256) (c z v h : Bool) where
-  at-flags : T (told t c z v h)
+  at-flags : T (flags-hold t c z v h)
   at-flags =
-      at-bool (λ h. told t c z v h)
-      (at-bool (λ v. either (λ h. told t c z v h))
-      (at-bool (λ z. either (λ v. either (λ h. told t c z v h)))
-      (at-bool (λ c. either (λ z. either (λ v. either (λ h. told t c z v h))))
-      (at (λ t. either (λ c. either (λ z. either (λ v. either (λ h. told t c z v h))))) 256 all-told t small) c) z) v) h
+      at-bool (λ h. flags-hold t c z v h)
+      (at-bool (λ v. either (λ h. flags-hold t c z v h))
+      (at-bool (λ z. either (λ v. either (λ h. flags-hold t c z v h)))
+      (at-bool (λ c. either (λ z. either (λ v. either (λ h. flags-hold t c z v h))))
+      (at (λ t. either (λ c. either (λ z. either (λ v. either (λ h. flags-hold t c z v h))))) 256 all-flags-hold t small) c) z) v) h
 
   pub flags-are : FlagsAre t c z v h (withFlags t c z v h)
-  unfolding told
+  unfolding flags-hold
   flags-are =
       let n : ℕ = withFlags t c z v h in
       let r1 = both-right (same (hasFlag n CF) c) _ at-flags in
@@ -82,20 +82,20 @@ only-flag i t hi ht v =
     }
 
 -- TTA's two tests of Z: T 04 stays 04, every other T loses Z
-tta-told : ℕ → Bool
-tta-told t = eqb (checkZ (checkZ t t) (checkZ t t)) (pick (eqb t 4) 4 (bitAnd t 0xFB))
+tta-holds : ℕ → Bool
+tta-holds t = eqb (checkZ (checkZ t t) (checkZ t t)) (pick (eqb t 4) 4 (bitAnd t 0xFB))
 
-tta-all : T (every tta-told 0 256)
-unfolding tta-told
+tta-all : T (every tta-holds 0 256)
+unfolding tta-holds
 tta-all = tt
 
 pub tta-z : (m : Lh5801) → m .t < 256 → ttaOf m .t ≡ pick (eqb (m .t) 4) 4 (bitAnd (m .t) 0xFB)
-unfolding ttaOf ldaOf with-a with-t tta-told
-tta-z m small = eqb→eq _ _ (at tta-told 256 tta-all (m .t) small)
+unfolding ttaOf ldaOf with-a with-t tta-holds
+tta-z m small = eqb→eq _ _ (at tta-holds 256 tta-all (m .t) small)
 
 -- the flags of a decimal sum are those of the sum before the correction
-pub decimal-flags : (t left right : ℕ) (carry : Bool) → decimalOf t left right carry .t ≡ addOf t left right carry .t
-unfolding decimalOf
+pub decimal-flags : (t left right : ℕ) (carry : Bool) → decimalSumOf t left right carry .t ≡ addOf t left right carry .t
+unfolding decimalSumOf
 decimal-flags t left right carry = refl
 
 -- ADR's two halves are the sum of 16 bits

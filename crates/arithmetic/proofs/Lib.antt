@@ -3,5 +3,4 @@ pub mod Compute
 pub mod Rows
 pub mod Flags
 pub mod Digits
-pub mod Marked
-pub mod Enable
+pub mod Status

@@ -6,7 +6,7 @@ use lib.Dec.{leb}
 use Rattle.arithmetic.specs.declared.Sum.{Sum}
 use Rattle.arithmetic.specs.declared.record.Lh5801.{Lh5801}
 use Rattle.arithmetic.specs.Flags.{CF, HF, bitOf, hasFlag}
-use Rattle.arithmetic.specs.Sums.{addOf, inverted, carryOf, withSum}
+use Rattle.arithmetic.specs.Sums.{addOf, inverted, withSum}
 
 -- what the result gains, by C and H
 abbrev pub adjust : Bool → Bool → ℕ
@@ -20,16 +20,16 @@ abbrev pub adjusted : Sum → Sum
 adjusted s = record { value = (s .value + adjust (hasFlag (s .t) CF) (hasFlag (s .t) HF)) % 256; t = s .t }
 
 -- `decimaladd_generic`
-unfoldable pub decimalOf : ℕ → ℕ → ℕ → Bool → Sum
-decimalOf t left right carry = adjusted (addOf t left right carry)
+unfoldable pub decimalSumOf : ℕ → ℕ → ℕ → Bool → Sum
+decimalSumOf t left right carry = adjusted (addOf t left right carry)
 
 -- DCA on A, T and an operand: left is A + 66, wrapped to 8 bits
 unfoldable pub dcaSum : ℕ → ℕ → ℕ → Sum
-dcaSum t a d = decimalOf t ((a + 0x66) % 256) d (hasFlag t CF)
+dcaSum t a d = decimalSumOf t ((a + 0x66) % 256) d (hasFlag t CF)
 
 -- DCS on A, T and an operand: the operand is inverted
 unfoldable pub dcsSum : ℕ → ℕ → ℕ → Sum
-dcsSum t a d = decimalOf t a (inverted d) (hasFlag t CF)
+dcsSum t a d = decimalSumOf t a (inverted d) (hasFlag t CF)
 
 unfoldable pub dcaOf : Lh5801 → ℕ → Lh5801
 dcaOf m d = withSum m (dcaSum (m .t) (m .a) d)

@@ -4,4 +4,3 @@ pub mod Sums
 pub mod Decimal
 pub mod Logic
 pub mod Shifts
-pub mod Marked

@@ -1,6 +1,6 @@
 -- Shifts of A, LOP's count, and moves of digits ("Shifts, LOP, DRL, DRR, AEX .. follow their functions").
 use Prim.Native.Nat.{ℕ, _+_, _*_, _/_, _%_}
-use mathlib.Core.Bool.{Bool, true, false, not, _&&_, _||_}
+use mathlib.Core.Bool.{Bool, false, not, _&&_, _||_}
 use lib.Dec.{eqb, leb, ltb}
 use Rattle.arithmetic.specs.declared.Looped.{Looped}
 use Rattle.arithmetic.specs.declared.Moved.{Moved}
@@ -43,17 +43,17 @@ abbrev pub shrOf : Lh5801 → Lh5801
 shrOf m = rightOf m false
 
 -- LOP on U: UL is tested before it is counted down; UL wraps, UH stays, and no flag changes
-abbrev pub lopOf : ℕ → Looped
-lopOf u = record { u = u / 256 * 256 + (u % 256 + 255) % 256; again = not (eqb (u % 256) 0) }
+abbrev pub loopedOf : ℕ → Looped
+loopedOf u = record { u = u / 256 * 256 + (u % 256 + 255) % 256; again = not (eqb (u % 256) 0) }
 
 -- AEX: A's two nibbles exchanged
 abbrev pub aexOf : ℕ → ℕ
 aexOf a = a % 16 * 16 + a / 16
 
 -- DRL: the memory byte's low digit moves up and A's high digit comes in below it; A becomes the byte that was read. No flag changes
-abbrev pub drlOf : ℕ → ℕ → Moved
-drlOf a b = record { a = b; byte = b % 16 * 16 + a / 16 }
+abbrev pub drlMoved : ℕ → ℕ → Moved
+drlMoved a b = record { a = b; byte = b % 16 * 16 + a / 16 }
 
 -- DRR: the memory byte's high digit moves down and A's low digit comes in above it; A becomes the byte that was read. No flag changes
-abbrev pub drrOf : ℕ → ℕ → Moved
-drrOf a b = record { a = b; byte = a % 16 * 16 + b / 16 }
+abbrev pub drrMoved : ℕ → ℕ → Moved
+drrMoved a b = record { a = b; byte = a % 16 * 16 + b / 16 }

@@ -3,9 +3,9 @@ ghost use mathlib.Core.Path.{_≡_};
 ghost use Prim.Native.Nat.{_≤_};
 ghost use Rattle.arithmetic.specs.Flags.{bitOf, hasFlag, setFlag, checkZ, withBits, withFlags};
 ghost use Rattle.arithmetic.specs.Sums.{overflowOf, addOf, withSum, adcOf, sbcOf, cpaOf, incOf, decOf, adrOf};
-ghost use Rattle.arithmetic.specs.Decimal.{adjust, decimalOf, dcaOf, dcsOf};
+ghost use Rattle.arithmetic.specs.Decimal.{adjust, decimalSumOf, dcaOf, dcsOf};
 ghost use Rattle.arithmetic.specs.Logic.{ldaOf, andOf, oraOf, eorOf, bitTestOf, ttaOf};
-ghost use Rattle.arithmetic.specs.Shifts.{leftOf, rightOverflowOf, rightOf, rolOf, shlOf, rorOf, shrOf, lopOf, aexOf, drlOf, drrOf};
+ghost use Rattle.arithmetic.specs.Shifts.{leftOf, rightOverflowOf, rightOf, rolOf, shlOf, rorOf, shrOf, loopedOf, aexOf, drlMoved, drrMoved};
 use crate::record::Lh5801;
 
 pub mod record;
@@ -157,7 +157,7 @@ fn adjustment(carry: bool, half: bool) -> u8
 
 // The flags are those of the sum before the adjustment.
 pub fn decimaladd_generic(t: u8, left: u8, right: u8, carry: bool) -> Sum
-    ensures { λ r. ⌜ r ≡ decimalOf t left right carry ⌝ }
+    ensures { λ r. ⌜ r ≡ decimalSumOf t left right carry ⌝ }
 {
     let s = add_generic(t, left, right, carry);
     let c = get_flag(s.t, CF);
@@ -309,7 +309,7 @@ pub fn shr(cpu: Lh5801) -> Lh5801
 
 // UL is tested before it is counted down; it wraps, and UH stays.
 pub fn lop(u: u16) -> Looped
-    ensures { λ r. ⌜ r ≡ lopOf u ⌝ }
+    ensures { λ r. ⌜ r ≡ loopedOf u ⌝ }
 {
     if u % 256 == 0 {
         Looped {
@@ -333,7 +333,7 @@ pub fn aex(a: u8) -> u8
 
 // A and the memory byte after DRL.
 pub fn drl(a: u8, byte: u8) -> Moved
-    ensures { λ r. ⌜ r ≡ drlOf a byte ⌝ }
+    ensures { λ r. ⌜ r ≡ drlMoved a byte ⌝ }
 {
     Moved {
         a: byte,
@@ -343,7 +343,7 @@ pub fn drl(a: u8, byte: u8) -> Moved
 
 // A and the memory byte after DRR.
 pub fn drr(a: u8, byte: u8) -> Moved
-    ensures { λ r. ⌜ r ≡ drrOf a byte ⌝ }
+    ensures { λ r. ⌜ r ≡ drrMoved a byte ⌝ }
 {
     Moved {
         a: byte,

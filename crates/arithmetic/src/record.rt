@@ -34,7 +34,7 @@ pub struct Lh5801 {
     pub is_timer_reached: bool,
     // document 01's "timer states"
     pub timer_state: u64,
-    // document 01's "previous states": timer states at the last shift of TM
+    // document 01's "previous states": timer states at the last shift of TM or after the last CDV
     pub step_previous_state: u64,
     // document 01's "ticks"
     pub ticks: u64,

@@ -19,7 +19,7 @@ use Rattle.execution.specs.declared.instructions.Signal.the-variants.{Pu
 use Rattle.execution.specs.declared.instructions.Instruction.{Instruction}
 use Rattle.execution.specs.declared.instructions.Instruction.the-variants.{Alu, Sta, Memory, Bii, Drr, Drl, Load, Compare, Inc, Dec, IncWord, DecWord, Sin, Sde, Lin, Lde, Branch, Lop, VectorIf, Vector, Jmp, Sjp, Rtn, Rti, LoadS, Tin, Cin, Accumulator as OnA, Signal as Sets, PopWord, PushWord, PopA, PushA, ToX, FromX, DropWord, Adr, Off, Hlt, Cdv, Nop}
 use Rattle.execution.specs.Instructions.{storeOf, staOf}
-use Rattle.execution.specs.Due.{settledOnA, settledSignal, settledOf}
+use Rattle.execution.specs.Code.Due.{settledOnA, settledSignal, settledOf}
 
 -- STA to no half
 abbrev places : List ℕ

@@ -5,7 +5,7 @@ use mathlib.Core.Logic.{_↔_}
 use Rattle.arithmetic.specs.declared.record.Lh5801.{Lh5801}
 use Rattle.arithmetic.specs.Flags.{IE, hasFlag}
 use Rattle.execution.specs.Conditions.{Due}
-use Rattle.execution.specs.Due.{dueBy, dueOf}
+use Rattle.execution.specs.Code.Due.{dueBy, dueOf}
 
 -- the four parts of `Due`
 abbrev Parts : Bool → Bool → Bool → Bool → Bool → Bool → Bool → Type 0
@@ -27,18 +27,18 @@ tested true false false false false e true t = absurd (false≢true t)
 tested true false false false false true false t = (refl, refl, refl, refl)
 tested true false false false false false false t = (refl, refl, refl, refl)
 
-told : (bf ir0 ir1 r ir2 e h : Bool) → bf ≡ true → ir0 ≡ false → bf && not ir0 && e && (ir1 || r || ir2) ≡ false → h ≡ false
+due-by : (bf ir0 ir1 r ir2 e h : Bool) → bf ≡ true → ir0 ≡ false → bf && not ir0 && e && (ir1 || r || ir2) ≡ false → h ≡ false
     → dueBy bf ir0 ir1 r ir2 e h ≡ true
-told false ir0 ir1 r ir2 e h b z n g = absurd (false≢true b)
-told true true ir1 r ir2 e h b z n g = absurd (true≢false z)
-told true false ir1 r ir2 e true b z n g = absurd (true≢false g)
-told true false true r ir2 true false b z n g = absurd (true≢false n)
-told true false true r ir2 false false b z n g = refl
-told true false false true ir2 true false b z n g = absurd (true≢false n)
-told true false false true ir2 false false b z n g = refl
-told true false false false true true false b z n g = absurd (true≢false n)
-told true false false false true false false b z n g = refl
-told true false false false false e false b z n g = refl
+due-by false ir0 ir1 r ir2 e h b z n g = absurd (false≢true b)
+due-by true true ir1 r ir2 e h b z n g = absurd (true≢false z)
+due-by true false ir1 r ir2 e true b z n g = absurd (true≢false g)
+due-by true false true r ir2 true false b z n g = absurd (true≢false n)
+due-by true false true r ir2 false false b z n g = refl
+due-by true false false true ir2 true false b z n g = absurd (true≢false n)
+due-by true false false true ir2 false false b z n g = refl
+due-by true false false false true true false b z n g = absurd (true≢false n)
+due-by true false false false true false false b z n g = refl
+due-by true false false false false e false b z n g = refl
 
 module _ (m : Lh5801) where
   due-holds : dueOf m ≡ true → Due m
@@ -50,7 +50,7 @@ module _ (m : Lh5801) where
   pub due-is : (dueOf m ≡ true) ↔ Due m
   due-is = (
     due-holds,
-    λ d. told (m .bf) (m .ir0) (m .ir1) (m .«is_timer_reached») (m .ir2) (hasFlag (m .t) IE) (m .«is_halted») (d .on) (d .free) (d .none) (d .running),
+    λ d. due-by (m .bf) (m .ir0) (m .ir1) (m .«is_timer_reached») (m .ir2) (hasFlag (m .t) IE) (m .«is_halted») (d .on) (d .free) (d .none) (d .running),
   )
 
   -- and then BF is set

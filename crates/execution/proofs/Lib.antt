@@ -2,8 +2,8 @@ pub mod Operands
 pub mod Table
 pub mod Listed
 pub mod Order
-pub mod Programs
-pub mod Counters
+pub mod Choices
+pub mod Effects
 pub mod Ways
 pub mod DueTest
 pub mod DueAgain

@@ -1,10 +1,10 @@
--- Which bytes are listed, and the bounds of the states: each a test computed over a whole page.
+-- Which bytes are listed, the bounds of the states, and the places that entries use: each a test computed over a whole page.
 use Prim.Native.Nat.{ℕ, _+_, _/_, _%_, _≤_}
 use native.Mathlib.Omega.{arith}
 use borrow.Author.Tests.{ltb-true, ltb-false}
 use mathlib.Core.Bool.{Bool, true, false, not}
 use mathlib.Core.List.{List, [], _∷_}
-use mathlib.Core.Path.{_≡_, refl, subst}
+use mathlib.Core.Path.{_≡_, refl, sym, subst}
 use lib.Dec.{T, ltb, leb, leb→le}
 use lib.ListN.{length, getD, List·getD-eq-default}
 use Rattle.arithmetic.proofs.Compute.{both, both-left, both-right, every, at}
@@ -13,7 +13,7 @@ use Rattle.execution.specs.declared.instructions.Decoded.{Decoded}
 use Rattle.execution.specs.declared.instructions.Decoded.the-variants.{Listed, Unlisted}
 use Rattle.execution.specs.Opcodes.{rows, decoded}
 use Rattle.execution.specs.OpcodesFd.{rowsFd, decodedFd}
-use Rattle.execution.specs.Listed.{listedFirst, listedAfterFd, bytesWhere}
+use Rattle.execution.specs.Listed.{listedFirst, listedAfterFd, bytesWhere, placeFits}
 use Rattle.execution.specs.States.{addedWhenTaken}
 
 -- the first bytes that are not listed: document 01's list
@@ -65,21 +65,21 @@ abbrev statesFit : Decoded → Bool
 statesFit (Listed i n) = both (leb 4 n) (leb (n + addedWhenTaken i) 23)
 statesFit Unlisted = true
 
--- a page that passes the test at each byte, and lists nothing past the last: what it says of an entry
-states-at : (page : ℕ → Decoded) → T (every (λ (b : ℕ). statesFit (page b)) 0 256) → ((b : ℕ) → 256 ≤ b → page b ≡ Unlisted)
-    → (byte : ℕ) {i : Instruction} {n : ℕ} → page byte ≡ Listed i n → (4 ≤ n) × (n + addedWhenTaken i ≤ 23)
-states-at page t past byte {i} {n} e = go (ltb byte 256) refl
+-- a test that each byte of a page passes, and an unlisted one: what it says of an entry
+entry-at : (test : Decoded → Bool) (page : ℕ → Decoded) → T (every (λ (b : ℕ). test (page b)) 0 256) → T (test Unlisted)
+    → ((b : ℕ) → 256 ≤ b → page b ≡ Unlisted)
+    → (byte : ℕ) {d : Decoded} → page byte ≡ d → T (test d)
+entry-at test page all none past byte e = subst (λ (d : Decoded). T (test d)) e (go (ltb byte 256) refl)
   where
-    go : (b : Bool) → ltb byte 256 ≡ b → (4 ≤ n) × (n + addedWhenTaken i ≤ 23)
-    go true h =
-        let fit : T (statesFit (Listed i n)) = subst (λ (d : Decoded). T (statesFit d)) e (at (λ (b : ℕ). statesFit (page b)) 256 t byte (ltb-true byte 256 h)) in (
-          leb→le 4 n (both-left (leb 4 n) (leb (n + addedWhenTaken i) 23) fit),
-          leb→le (n + addedWhenTaken i) 23 (both-right (leb 4 n) (leb (n + addedWhenTaken i) 23) fit),
-        )
-    go false h =
-        let u : page byte ≡ Unlisted = past byte (ltb-false byte 256 h) in
-        let z : _≡_ {A = ℕ} 0 1 = cc in
-        absurd (omega arith)
+    go : (b : Bool) → ltb byte 256 ≡ b → T (test (page byte))
+    go true h = at (λ (b : ℕ). test (page b)) 256 all byte (ltb-true byte 256 h)
+    go false h = subst (λ (d : Decoded). T (test d)) (sym (past byte (ltb-false byte 256 h))) none
+
+states-fit : (i : Instruction) (n : ℕ) → T (statesFit (Listed i n)) → (4 ≤ n) × (n + addedWhenTaken i ≤ 23)
+states-fit i n fit = (
+  leb→le 4 n (both-left (leb 4 n) (leb (n + addedWhenTaken i) 23) fit),
+  leb→le (n + addedWhenTaken i) 23 (both-right (leb 4 n) (leb (n + addedWhenTaken i) 23) fit),
+)
 
 -- a table of 16 rows lists nothing from 256 on
 past-rows : (table : List (List Decoded)) → length table ≡ 16 → (b : ℕ) → 256 ≤ b → getD (getD table (b / 16) []) (b % 16) Unlisted ≡ Unlisted
@@ -88,8 +88,21 @@ past-rows table l b h = rw (List·getD-eq-default table [] {n = b / 16} (omega (
 -- document 01: each executed instruction adds 4 to 23 states
 pub listed-states : (byte : ℕ) {i : Instruction} {n : ℕ} → decoded byte ≡ Listed i n → (4 ≤ n) × (n + addedWhenTaken i ≤ 23)
 unfolding decoded
-listed-states = states-at decoded tt (past-rows rows refl)
+listed-states byte {i} {n} e = states-fit i n (entry-at statesFit decoded tt tt (past-rows rows refl) byte e)
 
 pub listed-states-fd : (byte : ℕ) {i : Instruction} {n : ℕ} → decodedFd byte ≡ Listed i n → (4 ≤ n) × (n + addedWhenTaken i ≤ 23)
 unfolding decodedFd
-listed-states-fd = states-at decodedFd tt (past-rows rowsFd refl)
+listed-states-fd byte {i} {n} e = states-fit i n (entry-at statesFit decodedFd tt tt (past-rows rowsFd refl) byte e)
+
+abbrev entryFits : Decoded → Bool
+entryFits (Listed i n) = placeFits i
+entryFits Unlisted = true
+
+-- no entry of either table uses another place
+pub listed-places : (byte : ℕ) {i : Instruction} {n : ℕ} → decoded byte ≡ Listed i n → T (placeFits i)
+unfolding decoded
+listed-places byte e = entry-at entryFits decoded tt tt (past-rows rows refl) byte e
+
+pub listed-places-fd : (byte : ℕ) {i : Instruction} {n : ℕ} → decodedFd byte ≡ Listed i n → T (placeFits i)
+unfolding decodedFd
+listed-places-fd byte e = entry-at entryFits decodedFd tt tt (past-rows rowsFd refl) byte e

@@ -9,16 +9,21 @@ use Rattle.execution.proofs.places.Register.{the-type}
 use Prim.Native.Nat.{ℕ, _<_, _%_}
 use Rattle.arithmetic.specs.declared.record.Lh5801.{Lh5801}
 use Rattle.arithmetic.specs.Record.{with-x, with-y, with-u}
-use Rattle.pages.specs.Prog.{read, _>>=_}
-use Rattle.pages.specs.Stack.{readopOf, readopWordOf}
+use Rattle.arithmetic.proofs.Status.{only-x, only-y, only-u}
+use Rattle.pages.specs.declared.CodeByte.{CodeByte}
+use Rattle.pages.specs.Pages.{Pages}
+use Rattle.pages.specs.Contract.{Does}
+use Rattle.pages.specs.Stack.{readopWordOf}
+use Rattle.pages.proofs.Exec.{bind-done}
 use Rattle.execution.specs.declared.places.Register.{Register}
 use Rattle.execution.specs.declared.places.Register.the-variants.{X, Y, U}
 use Rattle.execution.specs.declared.places.Half.{Half}
 use Rattle.execution.specs.declared.places.Half.the-variants.{High, Low, None}
 use Rattle.execution.specs.declared.places.Place.{Place}
 use Rattle.execution.specs.declared.places.Place.the-variants.{Half as HalfAt, Pointer, Fixed, InCode}
-use Rattle.execution.specs.Places.{wordIn, withWord, halfIn, withHalf, locateOf, operandOf}
-use Rattle.execution.specs.Operands.{chosen, registerOf, registerAt, halfOf, fixedAt, locateAt, operandAt}
+use Rattle.execution.specs.declared.places.Located.{Located}
+use Rattle.execution.specs.Places.{wordIn, withWord, halfIn, locateOf, operandOf}
+use Rattle.execution.specs.Code.Operands.{chosen, registerOf, registerAt, halfOf, fixedAt, locateAt, operandAt}
 
 -- a register that is neither X, tag 0, nor Y, tag 1, is U
 pub third : (x y u : ℕ) (r : Register) → OneOf (1 ∷ 2 ∷ []) (tagOf the-type r) → OneOf (0 ∷ 2 ∷ []) (tagOf the-type r) → u ≡ chosen x y u r
@@ -36,31 +41,41 @@ chosen-word m U = refl
 -- all three pairs set, two of them to what they were
 pub word-set : (m : Lh5801) (r : Register) (w : ℕ)
     → with-u (with-y (with-x m (chosen w (m .x) (m .x) r)) (chosen (m .y) w (m .y) r)) (chosen (m .u) (m .u) w r) ≡ withWord m r w
-unfolding with-x with-y with-u
-word-set m X w = refl
-word-set m Y w = refl
-word-set m U w = refl
+word-set m X w = only-x m w
+word-set m Y w = only-y m w
+word-set m U w = only-u m w
 
 pub half-in : (m : Lh5801) (h : Half) → halfOf (wordIn m (registerOf h)) h ≡ halfIn m h
 half-in m (High r) = refl
 half-in m (Low r) = refl
 half-in m None = refl
 
-pub locate-at : (m : Lh5801) (place : Place) → locateAt (wordIn m (registerAt place)) (m .p) place ≡ locateOf m place
+locate-at : (m : Lh5801) (place : Place) → locateAt (wordIn m (registerAt place)) (m .p) place ≡ locateOf m place
 unfolding locateAt locateOf fixedAt
 locate-at m (HalfAt h) = refl
 locate-at m (Pointer page r) = refl
 locate-at m (Fixed page) = refl
 locate-at m InCode = refl
 
-pub operand-at : (m : Lh5801) (place : Place) → operandAt (wordIn m (registerAt place)) (m .p) place ≡ operandOf m place
-unfolding operandAt operandOf fixedAt readopWordOf readopOf read _>>=_
+operand-at : (m : Lh5801) (place : Place) → operandAt (wordIn m (registerAt place)) (m .p) place ≡ operandOf m place
+unfolding operandAt operandOf fixedAt
 operand-at m (HalfAt (High r)) = refl
 operand-at m (HalfAt (Low r)) = refl
 operand-at m (HalfAt None) = refl
 operand-at m (Pointer page r) = refl
-operand-at m (Fixed page) = refl
+operand-at m (Fixed page) = bind-done (readopWordOf (m .p)) _ _
 operand-at m InCode = refl
+
+-- what `locate` and `operand` do with the word that `word_at` gave
+pub does-locate : (m : Lh5801) (place : Place) {w : ℕ} {l n : Pages} {r : Located} → w ≡ wordIn m (registerAt place)
+    → Does (locateAt w (m .p) place) l r n
+    → Does (locateOf m place) l r n
+does-locate m place e d = rw (locate-at m place) at (rw e at d)
+
+pub does-operand : (m : Lh5801) (place : Place) {w : ℕ} {l n : Pages} {r : CodeByte} → w ≡ wordIn m (registerAt place)
+    → Does (operandAt w (m .p) place) l r n
+    → Does (operandOf m place) l r n
+does-operand m place e d = rw (operand-at m place) at (rw e at d)
 
 -- a byte is its own remainder
 pub byte-of-tm : {a : ℕ} → a < 256 → a ≡ a % 256

@@ -5,13 +5,14 @@ use mathlib.Core.Path.{_≡_, refl, sym, ap, subst, _∙_}
 use Rattle.arithmetic.specs.declared.record.Lh5801.{Lh5801}
 use Rattle.execution.specs.declared.Inputs.{Inputs}
 use Rattle.arithmetic.specs.declared.Looped.{Looped}
-use Rattle.arithmetic.specs.Shifts.{lopOf as loopedOf}
+use Rattle.arithmetic.specs.Shifts.{loopedOf}
 use Rattle.arithmetic.specs.Record.{with-u, with-p, with-ir1, with-ir2, with-is-timer-reached}
 use Rattle.arithmetic.specs.Flags.{IE, hasFlag}
 use Rattle.pages.specs.Pages.{Pages}
+use Rattle.arithmetic.proofs.Status.{Status, requested, times-ir1, times-ir2}
 use Rattle.pages.specs.Prog.{done, mapped}
 use Rattle.pages.specs.Contract.{Does}
-use Rattle.pages.specs.Stack.{entryOf}
+use Rattle.pages.specs.Stack.{acceptOf}
 use Rattle.pages.specs.Timer.{addStateOf, timerPartOf}
 use Rattle.pages.proofs.Does.{does-then, does-done, does-mapped, does-through}
 use Rattle.execution.specs.declared.instructions.Instruction.{Instruction}
@@ -26,27 +27,29 @@ use Rattle.execution.specs.declared.Outcome.{Outcome}
 use Rattle.execution.specs.declared.Outcome.the-variants.{Completed, Stopped}
 use Rattle.execution.specs.Instructions.{branchedOf, executeOf}
 use Rattle.execution.specs.States.{addedOf}
-use Rattle.execution.specs.Step.{off, frozen, entry, instruction, StepEnd, did, stopped, outcomeOf, fetchOf, decodedBy, unlistedBy, obeyOf, instructionOf, enteredOf, reachedOf, poweredOf, stepOf}
-use Rattle.execution.specs.Due.{dueBy, dueOf, Ready, settledOf, settledBy, executedAs, executedOf}
-use Rattle.execution.proofs.Tests.{cond-true, cond-false, reached-same, unheld}
+use Rattle.execution.specs.Step.{off, held, interrupt, instruction, StepEnd, did, stopped, outcomeOf, fetchOf, decodedBy, unlistedBy, decodedStepOf, instructionOf, interruptOf, reachedOf, poweredOf, stepOf}
+use Rattle.execution.specs.Code.Due.{dueBy, dueOf, Ready, settledOf, settledBy, executedAs, executedOf}
+use Rattle.execution.proofs.Effects.{dueIn}
+use Rattle.execution.proofs.Choices.{cond-both, cond-true, cond-false}
+use Rattle.execution.proofs.Tests.{reached-same, unheld}
 use Rattle.execution.proofs.DueTest.{due-is}
 
 -- a choice by a test that is known is made by `cond-true` and `cond-false`: `rw` with the test would change the record's field too
 
--- LOP, by what its count told
+-- LOP, by what its count gave
 module _ (m : Lh5801) (p offset : ℕ) where
   abbrev pub LoopEnd : Lh5801 → Looped → Type 0
   LoopEnd r l = r ≡ cond (l .again) (branchedOf (with-u m (l .u)) p offset false) (with-p (with-u m (l .u)) p)
 
   pub loop-again : {l : Looped} {counted r : Lh5801} → l ≡ loopedOf (m .u) → l .again ≡ true → counted ≡ with-u m (l .u) → r ≡ branchedOf counted p offset false
       → LoopEnd r (loopedOf (m .u))
-  loop-again {l} {counted} {r} told a c e =
-      subst (LoopEnd r) told (e ∙ ap (λ (k : Lh5801). branchedOf k p offset false) c ∙ sym (cond-true _ (branchedOf (with-u m (l .u)) p offset false) (with-p (with-u m (l .u)) p) a))
+  loop-again {l} {counted} {r} looped a c e =
+      subst (LoopEnd r) looped (e ∙ ap (λ (k : Lh5801). branchedOf k p offset false) c ∙ sym (cond-true _ (branchedOf (with-u m (l .u)) p offset false) (with-p (with-u m (l .u)) p) a))
 
   pub loop-over : {l : Looped} {counted r : Lh5801} → l ≡ loopedOf (m .u) → l .again ≡ false → counted ≡ with-u m (l .u) → r ≡ with-p counted p
       → LoopEnd r (loopedOf (m .u))
-  loop-over {l} {counted} {r} told a c e =
-      subst (LoopEnd r) told (e ∙ ap (λ (k : Lh5801). with-p k p) c ∙ sym (cond-false _ (branchedOf (with-u m (l .u)) p offset false) (with-p (with-u m (l .u)) p) a))
+  loop-over {l} {counted} {r} looped a c e =
+      subst (LoopEnd r) looped (e ∙ ap (λ (k : Lh5801). with-p k p) c ∙ sym (cond-false _ (branchedOf (with-u m (l .u)) p offset false) (with-p (with-u m (l .u)) p) a))
 
 module _ (m : Lh5801) where
   pub reached-moves : m .«is_timer_reached» ≡ true → reachedOf m ≡ with-is-timer-reached (with-ir1 m true) false
@@ -59,17 +62,11 @@ module _ (m : Lh5801) where
 
 -- which keeps TM
 pub reached-tm : (m : Lh5801) → reachedOf m .tm ≡ m .tm
-unfolding with-is-timer-reached with-ir1
-reached-tm m = reached-same m (λ k. k .tm) refl
+reached-tm m = reached-same m (λ k. k .tm) (ap (λ (s : Status). s .tm) (requested m true false .is))
 
--- and so does clearing the request that is entered
-pub answered-tm : (m : Lh5801) → cond (m .ir1) (with-ir1 m false) (with-ir2 m false) .tm ≡ m .tm
-unfolding with-ir1 with-ir2
-answered-tm m = go (m .ir1)
-  where
-    go : (b : Bool) → cond b (with-ir1 m false) (with-ir2 m false) .tm ≡ m .tm
-    go true = refl
-    go false = refl
+-- and so does clearing the request that is accepted
+pub acknowledged-tm : (m : Lh5801) → cond (m .ir1) (with-ir1 m false) (with-ir2 m false) .tm ≡ m .tm
+acknowledged-tm m = cond-both (λ (k : Lh5801). k .tm ≡ m .tm) (m .ir1) _ _ (times-ir1 m false .tm) (times-ir2 m false .tm)
 
 -- the test for an instruction does not pass, BF is set and nothing else holds: halted
 test-halted : (bf ir0 ir1 r ir2 e h : Bool) → dueBy bf ir0 ir1 r ir2 e h ≡ false → bf ≡ true → r ≡ false → ir0 ≡ false → ((ir1 || ir2) && e) ≡ false
@@ -89,7 +86,7 @@ test-moved : (bf ir0 ir1 ir2 e h : Bool) → dueBy bf ir0 true false ir2 e h ≡
 test-moved bf ir0 true ir2 e h = refl
 test-moved bf ir0 false ir2 e h = refl
 
--- the slow path by its tests: an enabled request is entered, IR1 before IR2, or none is
+-- the slow path by its tests: an enabled request is accepted, IR1 before IR2, or none is
 module _ {A B : Type 0} (f : B → ℕ → A) (a d : A) (x y : B) where
   some-request : (ir0 ir1 ir2 e : Bool) → ir0 ≡ false → ((ir1 || ir2) && e) ≡ true
       → cond ir0 a (cond (ir1 && e) (f x 0xFFFA) (cond (ir2 && e) (f y 0xFFF8) d)) ≡ f (cond ir1 x y) (cond ir1 0xFFFA 0xFFF8)
@@ -117,29 +114,29 @@ module _ (m : Lh5801) (inputs : Inputs) (on : m .bf ≡ true) (clear : m .«is_t
   step-powered =
       cond-true _ (poweredOf (reachedOf m) inputs) (done (did (addStateOf m 8) 8 off)) on ∙ ap (λ (k : Lh5801). poweredOf k inputs) (reached-stays m clear)
 
-  pub step-frozen : {p : Pages} {r : Lh5801} → m .ir0 ≡ true → r ≡ timerPartOf m → Does (mapped outcomeOf (stepOf m inputs)) p (Completed r) p
+  pub step-held : {p : Pages} {r : Lh5801} → m .ir0 ≡ true → r ≡ timerPartOf m → Does (mapped outcomeOf (stepOf m inputs)) p (Completed r) p
   unfolding poweredOf
-  step-frozen {r = r} a f =
-      rw (step-powered, cond-true _ (done (did (timerPartOf m) 0 frozen)) _ a)
-      (does-mapped outcomeOf {r = did r 0 frozen} (does-done (ap (λ (x : Lh5801). did x 0 frozen) f)))
+  step-held {r = r} a f =
+      rw (step-powered, cond-true _ (done (did (timerPartOf m) 0 held)) _ a)
+      (does-mapped outcomeOf {r = did r 0 held} (does-done (ap (λ (x : Lh5801). did x 0 held) f)))
 
   module _ (e : Bool) (enabled : e ≡ hasFlag (m .t) IE) (free : m .ir0 ≡ false) where
-    pub step-entered : {p q : Pages} {l k r : Lh5801} {vector : ℕ} → ((m .ir1 || m .ir2) && e) ≡ true
+    pub step-interrupt : {p q : Pages} {l k r : Lh5801} {vector : ℕ} → ((m .ir1 || m .ir2) && e) ≡ true
         → l ≡ cond (m .ir1) (with-ir1 m false) (with-ir2 m false)
         → vector ≡ cond (m .ir1) 0xFFFA 0xFFF8
-        → Does (entryOf l vector) p k q
+        → Does (acceptOf l vector) p k q
         → r ≡ timerPartOf k
         → Does (mapped outcomeOf (stepOf m inputs)) p (Completed r) q
-    unfolding poweredOf enteredOf
-    step-entered {r = r} {vector = vector} b u v d f =
-        rw (step-powered, ← enabled, some-request enteredOf (done (did (timerPartOf m) 0 frozen)) (cond (m .«is_halted») (done (stopped Halted)) (instructionOf m inputs)) (with-ir1 m false) (with-ir2 m false) (m .ir0) (m .ir1) (m .ir2) e free b, ← u, ← v)
-        (does-mapped outcomeOf {r = did r 0 (entry vector)} (does-then _ d (does-done (ap (λ (x : Lh5801). did x 0 (entry vector)) f))))
+    unfolding poweredOf interruptOf
+    step-interrupt {r = r} {vector = vector} b u v d f =
+        rw (step-powered, ← enabled, some-request interruptOf (done (did (timerPartOf m) 0 held)) (cond (m .«is_halted») (done (stopped Halted)) (instructionOf m inputs)) (with-ir1 m false) (with-ir2 m false) (m .ir0) (m .ir1) (m .ir2) e free b, ← u, ← v)
+        (does-mapped outcomeOf {r = did r 0 (interrupt vector)} (does-then _ d (does-done (ap (λ (x : Lh5801). did x 0 (interrupt vector)) f))))
 
     pub step-halted : {p : Pages} → ((m .ir1 || m .ir2) && e) ≡ false → dueOf m ≡ false → Does (mapped outcomeOf (stepOf m inputs)) p (Stopped Halted) p
     unfolding poweredOf
     step-halted b n =
         let h : m .«is_halted» ≡ true = test-halted (m .bf) (m .ir0) (m .ir1) (m .«is_timer_reached») (m .ir2) (hasFlag (m .t) IE) (m .«is_halted») n on clear free (rw (← enabled) b) in
-        rw (step-powered, ← enabled, no-request enteredOf (done (did (timerPartOf m) 0 frozen)) (cond (m .«is_halted») (done (stopped Halted)) (instructionOf m inputs)) (with-ir1 m false) (with-ir2 m false) (m .ir0) (m .ir1) (m .ir2) e free b, cond-true _ (done (stopped Halted)) (instructionOf m inputs) h)
+        rw (step-powered, ← enabled, no-request interruptOf (done (did (timerPartOf m) 0 held)) (cond (m .«is_halted») (done (stopped Halted)) (instructionOf m inputs)) (with-ir1 m false) (with-ir2 m false) (m .ir0) (m .ir1) (m .ir2) e free b, cond-true _ (done (stopped Halted)) (instructionOf m inputs) h)
         (does-mapped outcomeOf {r = stopped Halted} (does-done refl))
 
 -- where an instruction is due, the step is its
@@ -153,24 +150,24 @@ step-due m inputs h =
 -- timer reached moved to IR1: the same step, and an instruction is due or not as before
 module _ (m : Lh5801) where
   pub reached-clear : reachedOf m .«is_timer_reached» ≡ false
-  unfolding reachedOf with-is-timer-reached with-ir1
+  unfolding reachedOf
   reached-clear = go (m .«is_timer_reached») refl
     where
       go : (b : Bool) → m .«is_timer_reached» ≡ b → cond b (with-is-timer-reached (with-ir1 m true) false) m .«is_timer_reached» ≡ false
-      go true e = refl
+      go true e = ap (λ (s : Status). s .reached) (requested m true false .is)
       go false e = e
 
   pub reached-bf : reachedOf m .bf ≡ m .bf
-  unfolding with-is-timer-reached with-ir1
-  reached-bf = reached-same m (λ k. k .bf) refl
+  reached-bf = reached-same m (λ k. k .bf) (ap (λ (s : Status). s .bf) (requested m true false .is))
 
   pub reached-due : dueOf (reachedOf m) ≡ dueOf m
-  unfolding reachedOf with-is-timer-reached with-ir1
+  unfolding reachedOf
   reached-due = go (m .«is_timer_reached») refl
     where
       go : (b : Bool) → m .«is_timer_reached» ≡ b → dueOf (cond b (with-is-timer-reached (with-ir1 m true) false) m) ≡ dueOf m
       go true e =
-          test-moved (m .bf) (m .ir0) (m .ir1) (m .ir2) (hasFlag (m .t) IE) (m .«is_halted»)
+          ap dueIn (requested m true false .is)
+          ∙ test-moved (m .bf) (m .ir0) (m .ir1) (m .ir2) (hasFlag (m .t) IE) (m .«is_halted»)
           ∙ ap (λ (r : Bool). dueBy (m .bf) (m .ir0) (m .ir1) r (m .ir2) (hasFlag (m .t) IE) (m .«is_halted»)) (sym e)
       go false e = refl
 
@@ -204,7 +201,7 @@ module _ (m : Lh5801) (inputs : Inputs) where
       → r ≡ timerPartOf (addStateOf k n)
       → x ≡ executedAs (instruction (o .fd) (o .byte)) r
       → Does (mapped executedOf (instructionOf m inputs)) l x q
-  unfolding instructionOf obeyOf
+  unfolding instructionOf decodedStepOf
   instruction-did {o = o} {i = i} {n = n} {r = r} f e x t y =
       rw y
       (does-mapped executedOf {r = did r (n + addedOf m i) (instruction (o .fd) (o .byte))}
@@ -235,7 +232,7 @@ module _ (m : Lh5801) (inputs : Inputs) where
       → decodedBy (o .fd) (o .byte) ≡ Unlisted
       → s ≡ unlistedBy (o .fd) (o .byte)
       → Does (mapped executedOf (instructionOf m inputs)) l (StoppedThere s) p
-  unfolding instructionOf obeyOf
+  unfolding instructionOf decodedStepOf
   instruction-unlisted {s = s} f e t = does-mapped executedOf {r = stopped s} (does-then _ f (rw e (does-done (ap stopped t))))
 
 -- the same without the word that an instruction is due again
@@ -250,14 +247,14 @@ either-completed false m = refl
 
 executed-outcome : (e : StepEnd) → outcomeIn (executedOf e) ≡ outcomeOf e
 executed-outcome (did m states off) = refl
-executed-outcome (did m states frozen) = refl
-executed-outcome (did m states (entry vector)) = refl
+executed-outcome (did m states held) = refl
+executed-outcome (did m states (interrupt vector)) = refl
 executed-outcome (did m states (instruction fd byte)) = either-completed (settledBy (decodedBy fd byte) && not (m .«is_timer_reached»)) m
 executed-outcome (stopped s) = refl
 
-pub executed-told : (m : Lh5801) (inputs : Inputs) {p q : Pages} {r : Executed} → Does (mapped executedOf (stepOf m inputs)) p r q
+pub executed-step : (m : Lh5801) (inputs : Inputs) {p q : Pages} {r : Executed} → Does (mapped executedOf (stepOf m inputs)) p r q
     → Does (mapped outcomeOf (stepOf m inputs)) p (outcomeIn r) q
-executed-told m inputs d = does-through executedOf outcomeOf outcomeIn executed-outcome (stepOf m inputs) d
+executed-step m inputs d = does-through executedOf outcomeOf outcomeIn executed-outcome (stepOf m inputs) d
 
 -- a step with BF clear
 pub step-off : (m : Lh5801) (inputs : Inputs) {p : Pages} {r : Lh5801} → m .bf ≡ false → r ≡ addStateOf m 8 → Does (mapped outcomeOf (stepOf m inputs)) p (Completed r) p

@@ -1,4 +1,4 @@
--- The order of two reads that no answer tells: BII reads the memory byte before the immediate.
+-- The order of two reads that no answer tells: BII reads the memory byte before the immediate. Computed through the programs of `pages`.
 use mathlib.Core.List.{[], _∷_}
 use mathlib.Core.Path.{_≡_, refl}
 use Rattle.arithmetic.specs.declared.record.Lh5801.{Lh5801}

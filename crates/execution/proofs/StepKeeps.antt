@@ -1,107 +1,107 @@
 -- A completed step keeps TM at most 511, and adds its states to the ticks.
-use mathlib.Core.Path.{_≡_, refl}
-use mathlib.Core.Bool.{Bool, true, false, cond}
+use mathlib.Core.Path.{_≡_, refl, ap, _∙_}
+use mathlib.Core.Bool.{Bool, true, false, not}
 use Prim.Native.Nat.{ℕ, _+_, _%_, _^_, _<_}
 use native.Mathlib.Omega.{arith}
-use lib.Dec.{leb}
+use lib.Dec.{eqb}
 use Rattle.arithmetic.specs.declared.record.Lh5801.{Lh5801}
 use Rattle.execution.specs.declared.Inputs.{Inputs}
-use Rattle.arithmetic.specs.Record.{with-p, with-tm, with-ir1, with-ir2, with-is-timer-reached, with-step-previous-state, with-timer-state, with-ticks}
+use Rattle.arithmetic.specs.Record.{with-p, with-ir1, with-ir2}
+use Rattle.arithmetic.proofs.Status.{Status, SameTimes, p-keeps, keeps-p, times-ir1, times-ir2, times-reached, times-status, times-then}
 use Rattle.pages.specs.Pages.{Pages}
-use Rattle.pages.specs.Stack.{entryOf}
+use Rattle.pages.specs.Stack.{acceptOf}
 use Rattle.pages.specs.Prog.{exec}
-use Rattle.pages.specs.Timer.{addStateOf, timerIncOf, passedOf, timerPartOf}
-use Rattle.pages.proofs.Always.{Always, always-bind}
-use Rattle.pages.proofs.Timer.{timer-part-small}
+use Rattle.pages.specs.Timer.{addStateOf, timerPartOf}
+use Rattle.pages.proofs.Always.{Always, always-bind, always-then}
+use Rattle.pages.proofs.Stack.{accept-times}
+use Rattle.pages.proofs.Timer.{timer-part-small, timer-part-status, states-status}
 use Rattle.execution.specs.declared.instructions.Instruction.{Instruction}
 use Rattle.execution.specs.declared.instructions.Decoded.{Decoded}
 use Rattle.execution.specs.declared.instructions.Decoded.the-variants.{Listed, Unlisted}
 use Rattle.execution.specs.declared.Fetched.{Fetched}
-use Rattle.execution.specs.Instructions.{executeOf}
+use Rattle.execution.specs.Instructions.{holdsOf, executeOf}
 use Rattle.execution.specs.States.{Adds, nothing, branch, loop, vectorIf, vector, addsOf, takenFrom, addedOf}
-use Rattle.execution.specs.Step.{Kind, StepEnd, did, decodedBy, fetchOf, obeyOf, instructionOf, enteredOf, poweredOf, stepOf}
-use Rattle.execution.proofs.Programs.{always-then}
+use Rattle.execution.specs.Step.{Kind, StepEnd, did, decodedBy, fetchOf, decodedStepOf, instructionOf, interruptOf, poweredOf, stepOf}
 use Rattle.execution.proofs.Ways.{Did, did-exec, moved, powered-ways, step-ways}
-use Rattle.execution.proofs.Counters.{Told, told, entry-kept}
+use Rattle.execution.proofs.Effects.{Effect, executed}
 
 taken-any-p : (m : Lh5801) (p : ℕ) (a : Adds) → takenFrom (with-p m p) a ≡ takenFrom m a
-unfolding with-p
 taken-any-p m p nothing = refl
-taken-any-p m p (branch c forward) = refl
-taken-any-p m p loop = refl
-taken-any-p m p (vectorIf c) = refl
+taken-any-p m p (branch c forward) = ap (λ (t : ℕ). holdsOf t c) (p-keeps m p .0)
+taken-any-p m p loop = ap (λ (u : ℕ). not (eqb (u % 256) 0)) (p-keeps m p .1)
+taken-any-p m p (vectorIf c) = ap (λ (t : ℕ). holdsOf t c) (p-keeps m p .0)
 taken-any-p m p vector = refl
 
 -- what an instruction adds does not depend on P
-pub added-any-p : (m : Lh5801) (p : ℕ) (i : Instruction) → addedOf (with-p m p) i ≡ addedOf m i
+added-any-p : (m : Lh5801) (p : ℕ) (i : Instruction) → addedOf (with-p m p) i ≡ addedOf m i
 added-any-p m p i = rw (taken-any-p m p (addsOf i))
 
-timer-part-ticks : (m : Lh5801) → timerPartOf m .ticks ≡ m .ticks
-unfolding timerPartOf timerIncOf with-tm with-is-timer-reached with-step-previous-state
-timer-part-ticks m = go (leb 42 (passedOf m))
-  where
-    go : (t : Bool) → cond t (with-step-previous-state (timerIncOf m) (m .«timer_state»)) m .ticks ≡ m .ticks
-    go true = refl
-    go false = refl
-
-told-timer : (m k : Lh5801) (n : ℕ) → Told m n k → Told m n (timerPartOf k)
-told-timer m k n h = (timer-part-small k (h .0), rw (timer-part-ticks k) (h .1))
-
-told-states : (m k : Lh5801) (n e : ℕ) → Told m e k → Told m (n + e) (addStateOf k n)
-unfolding addStateOf with-ticks with-timer-state
-told-states m k n e h = (h .0, omega arith)
+-- the counters after e states
+abbrev Counted : Lh5801 → ℕ → Lh5801 → Type 0
+Counted m e k = (k .tm < 512) × (k .ticks % 2 ^ 64 ≡ (m .ticks + e) % 2 ^ 64)
 
 -- the counters of m after a completed step
-abbrev ToldEnd : Lh5801 → StepEnd → Type 0
-ToldEnd m = Did (λ k n kind. Told m n k)
+abbrev CountedEnd : Lh5801 → StepEnd → Type 0
+CountedEnd m = Did (λ k n kind. Counted m n k)
 
-module _ (m : Lh5801) (small : m .tm < 512) where
-  told-unchanged : Told m 0 m
-  told-unchanged = (small, omega arith)
+module _ (m : Lh5801) (small : m .tm < 512) (inputs : Inputs) where
+  -- over the timer part, over states that pass, from m's own counters, and over an instruction
+  counted-timer : (k : Lh5801) (n : ℕ) → Counted m n k → Counted m n (timerPartOf k)
+  counted-timer k n h = (timer-part-small k (h .0), rw (ap (λ (s : Status). s .ticks) (timer-part-status k)) (h .1))
 
-  told-off : Told m 8 (addStateOf m 8)
-  told-off = told-states m m 8 0 told-unchanged
+  counted-states : (k : Lh5801) (n e : ℕ) → Counted m e k → Counted m (n + e) (addStateOf k n)
+  counted-states k n e h = (
+    rw (ap (λ (s : Status). s .tm) (states-status k n)) (h .0),
+    omega (arith, ap (λ (s : Status). s .ticks) (states-status k n), h .1),
+  )
 
-  told-entered : (at : ℕ) → Always (ToldEnd m) (enteredOf m at)
-  unfolding enteredOf
-  told-entered at =
-      always-bind _ _ (entryOf m at) _ (entry-kept m at) (λ k s. told-timer m k 0 (rw (s .0) small, rw (s .1) (omega arith)))
+  counted-same : (k : Lh5801) → SameTimes m k → Counted m 0 k
+  counted-same k s = (rw (s .tm) small, omega (arith, s .ticks))
 
-  module _ (inputs : Inputs) where
-    told-obeyed : (o : Fetched) (d : Decoded) → Always (ToldEnd m) (obeyOf m inputs o d)
-    unfolding obeyOf with-p
-    told-obeyed o (Listed i n) =
-        always-bind _ _ (executeOf (with-p m (o .p)) inputs i) _ (told (with-p m (o .p)) small inputs i)
-        (λ k t. told-timer m (addStateOf k n) _ (rw (added-any-p m (o .p) i) at (told-states m k n _ t)))
-    told-obeyed o Unlisted = tt
+  counted-effect : (k r : Lh5801) (e : ℕ) (b : Bool) → SameTimes m k → Effect k e b r → Counted m e r
+  counted-effect k r e b s f = (f .small (rw (s .tm) small), f .ticks ∙ ap (λ (n : ℕ). (n + e) % 2 ^ 64) (s .ticks))
 
-    told-instruction : Always (ToldEnd m) (instructionOf m inputs)
-    unfolding instructionOf
-    told-instruction = always-then _ (fetchOf (m .p)) _ (λ o. told-obeyed o (decodedBy (o .fd) (o .byte)))
+  -- from a record with m's counters
+  counted-interrupt : (k : Lh5801) → SameTimes m k → (at : ℕ) → Always (CountedEnd m) (interruptOf k at)
+  unfolding interruptOf
+  counted-interrupt k s at = always-bind _ _ (acceptOf k at) _ (accept-times k at) (λ r t. counted-timer r 0 (counted-same r (times-then s t)))
 
-told-powered : (m : Lh5801) → m .tm < 512 → (inputs : Inputs) → Always (ToldEnd m) (poweredOf m inputs)
-unfolding with-ir1 with-ir2
-told-powered m small inputs =
-    powered-ways (Always (ToldEnd m)) m inputs (told-timer m m 0 (told-unchanged m small)) (told-entered (with-ir1 m false) small 0xFFFA)
-    (told-entered (with-ir2 m false) small 0xFFF8)
-    tt
-    (told-instruction m small inputs)
+  counted-obeyed : (k : Lh5801) → SameTimes m k → (o : Fetched) (d : Decoded) → Always (CountedEnd m) (decodedStepOf k inputs o d)
+  unfolding decodedStepOf
+  counted-obeyed k s o (Listed i n) =
+      always-bind _ _ (executeOf (with-p k (o .p)) inputs i) _ (executed (with-p k (o .p)) inputs i)
+      (λ r f. counted-timer (addStateOf r n) _ (rw (added-any-p k (o .p) i) at
+      (counted-states r n _ (counted-effect (with-p k (o .p)) r _ _ (times-then s (times-status k _ (keeps-p k (o .p)))) f))))
+  counted-obeyed k s o Unlisted = tt
 
-told-step : (m : Lh5801) → m .tm < 512 → (inputs : Inputs) → Always (ToldEnd m) (stepOf m inputs)
-unfolding with-ir1 with-is-timer-reached
-told-step m small inputs =
-    step-ways (Always (ToldEnd m)) m inputs (told-off m small) (told-powered (moved m) small inputs) (told-powered m small inputs)
+  counted-instruction : (k : Lh5801) → SameTimes m k → Always (CountedEnd m) (instructionOf k inputs)
+  unfolding instructionOf
+  counted-instruction k s = always-then _ (fetchOf (k .p)) _ (λ o. counted-obeyed k s o (decodedBy (o .fd) (o .byte)))
+
+  counted-powered : (k : Lh5801) → SameTimes m k → Always (CountedEnd m) (poweredOf k inputs)
+  counted-powered k s =
+      powered-ways (Always (CountedEnd m)) k inputs (counted-timer k 0 (counted-same k s))
+      (counted-interrupt (with-ir1 k false) (times-then s (times-ir1 k false)) 0xFFFA)
+      (counted-interrupt (with-ir2 k false) (times-then s (times-ir2 k false)) 0xFFF8)
+      tt
+      (counted-instruction k s)
+
+  counted-step : Always (CountedEnd m) (stepOf m inputs)
+  counted-step =
+      let own : SameTimes m m = times-status m m refl in
+      step-ways (Always (CountedEnd m)) m inputs (counted-states m 8 0 (counted-same m own))
+      (counted-powered (moved m) (times-then (times-ir1 m true) (times-reached (with-ir1 m true) false))) (counted-powered m own)
 
 -- a completed step keeps TM at most 511
 pub step-small : (m : Lh5801) (inputs : Inputs) → m .tm < 512
     → (pages : Pages) (k : Lh5801) (s : ℕ) (kind : Kind)
     → exec (stepOf m inputs) pages .answer ≡ did k s kind
     → k .tm < 512
-step-small m inputs small pages k s kind e = did-exec _ (stepOf m inputs) (told-step m small inputs) pages k s kind e .0
+step-small m inputs small pages k s kind e = did-exec _ (stepOf m inputs) (counted-step m small inputs) pages k s kind e .0
 
 -- a completed step adds its states to the ticks, on 64 bits
 pub step-ticks : (m : Lh5801) (inputs : Inputs) → m .tm < 512
     → (pages : Pages) (k : Lh5801) (s : ℕ) (kind : Kind)
     → exec (stepOf m inputs) pages .answer ≡ did k s kind
     → k .ticks % 2 ^ 64 ≡ (m .ticks + s) % 2 ^ 64
-step-ticks m inputs small pages k s kind e = did-exec _ (stepOf m inputs) (told-step m small inputs) pages k s kind e .1
+step-ticks m inputs small pages k s kind e = did-exec _ (stepOf m inputs) (counted-step m small inputs) pages k s kind e .1

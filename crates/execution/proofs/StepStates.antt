@@ -7,17 +7,17 @@ use Rattle.arithmetic.specs.declared.record.Lh5801.{Lh5801}
 use Rattle.execution.specs.declared.Inputs.{Inputs}
 use Rattle.arithmetic.specs.Record.{with-p, with-ir1, with-ir2}
 use Rattle.pages.specs.Pages.{Pages}
-use Rattle.pages.specs.Stack.{entryOf}
+use Rattle.pages.specs.Stack.{acceptOf}
 use Rattle.pages.specs.Prog.{exec}
-use Rattle.pages.proofs.Always.{Always}
+use Rattle.pages.proofs.Always.{Always, always-then}
 use Rattle.execution.specs.declared.instructions.Instruction.{Instruction}
 use Rattle.execution.specs.declared.instructions.Decoded.{Decoded}
 use Rattle.execution.specs.declared.instructions.Decoded.the-variants.{Listed, Unlisted}
 use Rattle.execution.specs.declared.Fetched.{Fetched}
 use Rattle.execution.specs.Instructions.{executeOf}
 use Rattle.execution.specs.States.{addsOf, addedWhenTaken, takenFrom, addedOf}
-use Rattle.execution.specs.Step.{Kind, off, frozen, entry, instruction, fewestStates, mostStates, StepEnd, did, decodedBy, fetchOf, obeyOf, instructionOf, enteredOf, poweredOf, stepOf}
-use Rattle.execution.proofs.Programs.{always-then, cond-both}
+use Rattle.execution.specs.Step.{Kind, off, held, interrupt, instruction, fewestStates, mostStates, StepEnd, did, decodedBy, fetchOf, decodedStepOf, instructionOf, interruptOf, poweredOf, stepOf}
+use Rattle.execution.proofs.Choices.{cond-both}
 use Rattle.execution.proofs.Ways.{Did, did-exec, moved, powered-ways, step-ways}
 use Rattle.execution.proofs.Listed.{listed-states, listed-states-fd}
 
@@ -31,21 +31,21 @@ added-most m i = cond-both (λ n. n ≤ addedWhenTaken i) (takenFrom m (addsOf i
 
 most-23 : (kind : Kind) → mostStates kind ≤ 23
 most-23 off = omega arith
-most-23 frozen = omega arith
-most-23 (entry vector) = omega arith
+most-23 held = omega arith
+most-23 (interrupt vector) = omega arith
 most-23 (instruction fd byte) = omega arith
 
-fits-entered : (m : Lh5801) (vector : ℕ) → Always Fits (enteredOf m vector)
-unfolding enteredOf
-fits-entered m vector = always-then Fits (entryOf m vector) _ (λ k. (omega arith, omega arith))
+fits-interrupt : (m : Lh5801) (vector : ℕ) → Always Fits (interruptOf m vector)
+unfolding interruptOf
+fits-interrupt m vector = always-then Fits (acceptOf m vector) _ (λ k. (omega arith, omega arith))
 
 -- each entry of the opcode table has 4 states at least, and 23 at most with what it adds where it is taken
 listed-by : (fd : Bool) (byte : ℕ) (i : Instruction) (n : ℕ) → decodedBy fd byte ≡ Listed i n → (4 ≤ n) × (n + addedWhenTaken i ≤ 23)
 listed-by true byte i n e = listed-states-fd byte e
 listed-by false byte i n e = listed-states byte e
 
-fits-obeyed : (m : Lh5801) (inputs : Inputs) (o : Fetched) (d : Decoded) → decodedBy (o .fd) (o .byte) ≡ d → Always Fits (obeyOf m inputs o d)
-unfolding obeyOf
+fits-obeyed : (m : Lh5801) (inputs : Inputs) (o : Fetched) (d : Decoded) → decodedBy (o .fd) (o .byte) ≡ d → Always Fits (decodedStepOf m inputs o d)
+unfolding decodedStepOf
 fits-obeyed m inputs o (Listed i n) e = always-then Fits (executeOf (with-p m (o .p)) inputs i) _
     (λ k. (omega (arith, listed-by (o .fd) (o .byte) i n e), omega (arith, listed-by (o .fd) (o .byte) i n e, added-most m i)))
 fits-obeyed m inputs o Unlisted e = tt
@@ -56,15 +56,15 @@ fits-instruction m inputs = always-then Fits (fetchOf (m .p)) _ (λ o. fits-obey
 
 fits-powered : (m : Lh5801) (inputs : Inputs) → Always Fits (poweredOf m inputs)
 fits-powered m inputs =
-    powered-ways (Always Fits) m inputs (omega arith, omega arith) (fits-entered (with-ir1 m false) 0xFFFA)
-    (fits-entered (with-ir2 m false) 0xFFF8)
+    powered-ways (Always Fits) m inputs (omega arith, omega arith) (fits-interrupt (with-ir1 m false) 0xFFFA)
+    (fits-interrupt (with-ir2 m false) 0xFFF8)
     tt
     (fits-instruction m inputs)
 
 fits-step : (m : Lh5801) (inputs : Inputs) → Always Fits (stepOf m inputs)
 fits-step m inputs = step-ways (Always Fits) m inputs (omega arith, omega arith) (fits-powered (moved m) inputs) (fits-powered m inputs)
 
--- a completed step has the states of its kind: 8 with BF clear, 0 frozen and for an entry, 4 to 23 for an instruction
+-- a completed step has the states of its kind: 8 with BF clear, 0 where IR0 holds it or an interrupt is accepted, 4 to 23 for an instruction
 pub step-kind-states : (m : Lh5801) (inputs : Inputs) (pages : Pages) (k : Lh5801) (s : ℕ) (kind : Kind)
     → exec (stepOf m inputs) pages .answer ≡ did k s kind
     → (fewestStates kind ≤ s) × (s ≤ mostStates kind)

@@ -1,6 +1,6 @@
 -- A step stops with 7, 5 or 6 under document 01's condition for it and no other.
 use mathlib.Core.Path.{_≡_, refl, sym, ap, subst, _∙_}
-use mathlib.Core.Bool.{Bool, true, false}
+use mathlib.Core.Bool.{Bool, true, false, true≢false}
 use mathlib.Core.Logic.{_↔_}
 use Prim.Native.Nat.{ℕ}
 use native.Mathlib.Omega.{arith}
@@ -12,6 +12,7 @@ use Rattle.pages.specs.Pages.{Pages, at}
 use Rattle.pages.specs.Prog.{exec}
 use Rattle.pages.specs.Stack.{up16}
 use Rattle.pages.proofs.Always.{always-exec}
+use Rattle.pages.proofs.Exec.{done-answer}
 use Rattle.execution.specs.declared.instructions.Instruction.{Instruction}
 use Rattle.execution.specs.declared.instructions.Decoded.{Decoded}
 use Rattle.execution.specs.declared.instructions.Decoded.the-variants.{Listed, Unlisted}
@@ -20,27 +21,29 @@ use Rattle.execution.specs.declared.Stop.{Stop}
 use Rattle.execution.specs.declared.Stop.the-variants.{Unlisted as UnlistedByte, UnlistedFd, Halted}
 use Rattle.execution.specs.Opcodes.{decoded}
 use Rattle.execution.specs.OpcodesFd.{decodedFd}
-use Rattle.execution.specs.Step.{StepEnd, did, stopped, fetched, decodedBy, unlistedBy, obeyOf, reachedOf, stepOf}
+use Rattle.execution.specs.Listed.{isListed, listedFirst}
+use Rattle.execution.specs.Step.{StepEnd, did, stopped, fetched, decodedBy, unlistedBy, decodedStepOf, reachedOf, stepOf}
 use Rattle.execution.specs.Conditions.{accepted, HaltedStop, Due, firstByte, secondByte, FirstUnlisted, SecondUnlisted, opcodeAt, Completes, NoStop}
 use Rattle.execution.proofs.OpcodeRead.{instruction-answer}
 use Rattle.execution.proofs.StopsClean.{IsDid, did-listed}
-use Rattle.execution.proofs.Tests.{cond-true, cond-false, reached-p, off-step, frozen-step, unheld, accepted-step}
+use Rattle.execution.proofs.Choices.{none-left, none-right, cond-true, cond-false}
+use Rattle.execution.proofs.Tests.{reached-p, off-step, held-step, unheld, accepted-step}
 
 -- what a decoded opcode comes to
 obeyed : Lh5801 → Inputs → Pages → Fetched → StepEnd
-obeyed m inputs pages o = exec (obeyOf m inputs o (decodedBy (o .fd) (o .byte))) pages .answer
+obeyed m inputs pages o = exec (decodedStepOf m inputs o (decodedBy (o .fd) (o .byte))) pages .answer
 
 obeyed-unlisted : (m : Lh5801) (inputs : Inputs) (pages : Pages) (o : Fetched) → decodedBy (o .fd) (o .byte) ≡ Unlisted
     → obeyed m inputs pages o ≡ stopped (unlistedBy (o .fd) (o .byte))
-unfolding obeyed obeyOf exec
-obeyed-unlisted m inputs pages o e = ap (λ d. exec (obeyOf m inputs o d) pages .answer) e
+unfolding obeyed decodedStepOf
+obeyed-unlisted m inputs pages o e = ap (λ d. exec (decodedStepOf m inputs o d) pages .answer) e ∙ done-answer _ pages
 
 obeyed-listed : (m : Lh5801) (inputs : Inputs) (pages : Pages) (o : Fetched) (i : Instruction) (n : ℕ) → decodedBy (o .fd) (o .byte) ≡ Listed i n
     → IsDid (obeyed m inputs pages o)
 unfolding obeyed
 obeyed-listed m inputs pages o i n e =
-    subst (λ d. IsDid (exec (obeyOf m inputs o d) pages .answer)) (sym e)
-    (always-exec IsDid (obeyOf m inputs o (Listed i n)) (did-listed m inputs o i n) pages)
+    subst (λ d. IsDid (exec (decodedStepOf m inputs o d) pages .answer)) (sym e)
+    (always-exec IsDid (decodedStepOf m inputs o (Listed i n)) (did-listed m inputs o i n) pages)
 
 -- the opcode, by whether the first byte is FD
 opcode-first : (pages : Pages) (p b : ℕ) → at pages p ≡ b → ¬ (b ≡ 0xFD) → opcodeAt pages p ≡ fetched false b (up16 p)
@@ -51,15 +54,29 @@ opcode-second : (pages : Pages) (p b : ℕ) → at pages p ≡ 0xFD → at pages
 opcode-second pages p b h e =
     cond-true (eqb (at pages p) 0xFD) _ _ (eq-eqb (at pages p) 0xFD h) ∙ ap (λ n. fetched true n (up16 (up16 p))) e
 
+-- what "unlisted" says: the table has no entry, and a first byte is not FD
+no-entry : (d : Decoded) → isListed d ≡ false → d ≡ Unlisted
+no-entry (Listed i n) e = absurd (true≢false e)
+no-entry Unlisted e = refl
+
+first-no-entry : (b : ℕ) → listedFirst b ≡ false → decoded b ≡ Unlisted
+first-no-entry b e = no-entry (decoded b) (none-right (eqb b 0xFD) _ e)
+
+first-not-fd : (b : ℕ) → listedFirst b ≡ false → ¬ (b ≡ 0xFD)
+first-not-fd b e = eqb-false b 0xFD (none-left (eqb b 0xFD) _ e)
+
+first-unlisted : (b : ℕ) → ¬ (b ≡ 0xFD) → decoded b ≡ Unlisted → listedFirst b ≡ false
+first-unlisted b h e = rw (ne-eqb b 0xFD h, e)
+
 module _ (m : Lh5801) (inputs : Inputs) (pages : Pages) where
   answer : StepEnd
   answer = exec (stepOf m inputs) pages .answer
 
   -- each condition tells the answer
   halted-answer : HaltedStop m → answer ≡ stopped Halted
-  unfolding answer exec
+  unfolding answer
   halted-answer h =
-      ap (λ p. exec p pages .answer) (unheld m inputs (h .on) (h .free) (h .none) ∙ cond-true (m .«is_halted») _ _ (h .halted))
+      ap (λ p. exec p pages .answer) (unheld m inputs (h .on) (h .free) (h .none) ∙ cond-true (m .«is_halted») _ _ (h .halted)) ∙ done-answer _ pages
 
   due-answer : Due m → (o : Fetched) → opcodeAt pages (m .p) ≡ o → answer ≡ obeyed (reachedOf m) inputs pages o
   unfolding answer obeyed
@@ -71,12 +88,14 @@ module _ (m : Lh5801) (inputs : Inputs) (pages : Pages) where
   first-answer : (b : ℕ) → FirstUnlisted m pages b → answer ≡ stopped (UnlistedByte b)
   first-answer b f =
       let o : Fetched = fetched false b (up16 (m .p)) in
-      due-answer (f .due) o (opcode-first pages (m .p) b (f .first) (f .other)) ∙ obeyed-unlisted (reachedOf m) inputs pages o (f .unlisted)
+      due-answer (f .due) o (opcode-first pages (m .p) b (f .first) (first-not-fd b (f .unlisted)))
+      ∙ obeyed-unlisted (reachedOf m) inputs pages o (first-no-entry b (f .unlisted))
 
   second-answer : (b : ℕ) → SecondUnlisted m pages b → answer ≡ stopped (UnlistedFd b)
   second-answer b f =
       let o : Fetched = fetched true b (up16 (up16 (m .p))) in
-      due-answer (f .due) o (opcode-second pages (m .p) b (f .first) (f .second)) ∙ obeyed-unlisted (reachedOf m) inputs pages o (f .unlisted)
+      due-answer (f .due) o (opcode-second pages (m .p) b (f .first) (f .second))
+      ∙ obeyed-unlisted (reachedOf m) inputs pages o (no-entry (decodedFd b) (f .unlisted))
 
   -- one of the conditions holds, or the step is completed
   data Case : Type 0 where
@@ -89,13 +108,13 @@ module _ (m : Lh5801) (inputs : Inputs) (pages : Pages) where
   case-first due b f h (Listed i n) e =
       let o : Fetched = fetched false b (up16 (m .p)) in
       isCompleted (subst IsDid (sym (due-answer due o (opcode-first pages (m .p) b f h))) (obeyed-listed (reachedOf m) inputs pages o i n e))
-  case-first due b f h Unlisted e = isFirst b (record { due = due; first = f; other = h; unlisted = e })
+  case-first due b f h Unlisted e = isFirst b (record { due = due; first = f; unlisted = first-unlisted b h e })
 
   case-second : Due m → firstByte m pages ≡ 0xFD → (b : ℕ) → secondByte m pages ≡ b → (d : Decoded) → decodedFd b ≡ d → Case
   case-second due h b f (Listed i n) e =
       let o : Fetched = fetched true b (up16 (up16 (m .p))) in
       isCompleted (subst IsDid (sym (due-answer due o (opcode-second pages (m .p) b h f))) (obeyed-listed (reachedOf m) inputs pages o i n e))
-  case-second due h b f Unlisted e = isSecond b (record { due = due; first = h; second = f; unlisted = e })
+  case-second due h b f Unlisted e = isSecond b (record { due = due; first = h; second = f; unlisted = ap isListed e })
 
   case-due : Due m → Case
   case-due due = go (eqb (firstByte m pages) 0xFD) refl
@@ -110,7 +129,7 @@ module _ (m : Lh5801) (inputs : Inputs) (pages : Pages) where
     where
       go : (b : Bool) → m .bf ≡ b → (z : Bool) → m .ir0 ≡ z → (n : Bool) → accepted m ≡ n → (h : Bool) → m .«is_halted» ≡ h → Case
       go false b z e n f h g = isCompleted (always-exec IsDid (stepOf m inputs) (off-step m inputs b) pages)
-      go true b true e n f h g = isCompleted (always-exec IsDid (stepOf m inputs) (frozen-step m inputs b e) pages)
+      go true b true e n f h g = isCompleted (always-exec IsDid (stepOf m inputs) (held-step m inputs b e) pages)
       go true b false e true f h g = isCompleted (always-exec IsDid (stepOf m inputs) (accepted-step m inputs b e f) pages)
       go true b false e false f true g = isHalted (record { on = b; halted = g; free = e; none = f })
       go true b false e false f false g = case-due (record { on = b; free = e; none = f; running = g })

@@ -11,7 +11,7 @@ use Rattle.arithmetic.proofs.Rows.{Rest, clear, default}
 use Rattle.arithmetic.proofs.Compute.{both, both-left, both-right}
 use Rattle.execution.specs.declared.instructions.Decoded.{Decoded}
 use Rattle.execution.specs.declared.instructions.Decoded.the-variants.{Listed, Unlisted}
-use Rattle.execution.specs.Chain.{chained, orElse, column}
+use Rattle.execution.specs.Code.Chain.{chained, orElse, column}
 use Rattle.execution.specs.OpcodesFd.{none}
 
 -- no row has more than 16 entries

@@ -1,19 +1,19 @@
 -- What a step does by BF, IR0, the interrupts and halted.
 use mathlib.Core.Path.{_≡_, refl, sym, ap, subst, _∙_}
-use mathlib.Core.Bool.{Bool, true, false, not, _&&_, _||_, cond, true≢false, false≢true}
-use Prim.Native.Nat.{ℕ}
+use mathlib.Core.Bool.{Bool, true, false, not, _&&_, _||_, cond, false≢true}
 use Rattle.arithmetic.specs.declared.record.Lh5801.{Lh5801}
 use Rattle.execution.specs.declared.Inputs.{Inputs}
-use Rattle.arithmetic.specs.Record.{with-ir1, with-ir2, with-is-timer-reached}
+use Rattle.arithmetic.specs.Record.{with-ir1, with-ir2}
 use Rattle.arithmetic.specs.Flags.{IE, hasFlag}
+use Rattle.arithmetic.proofs.Status.{Status, Requested, requested}
 use Rattle.pages.specs.Prog.{Prog, done}
 use Rattle.pages.proofs.Always.{Always}
 use Rattle.execution.specs.declared.Stop.the-variants.{Halted}
-use Rattle.execution.specs.Step.{StepEnd, stopped, instructionOf, enteredOf, reachedOf, poweredOf, stepOf}
+use Rattle.execution.specs.Step.{StepEnd, stopped, instructionOf, interruptOf, reachedOf, poweredOf, stepOf}
 use Rattle.execution.specs.Conditions.{accepted}
-use Rattle.execution.proofs.Programs.{cond-both}
+use Rattle.execution.proofs.Choices.{none-left, none-right, cond-both, cond-true, cond-false}
 use Rattle.execution.proofs.Ways.{moved}
-use Rattle.execution.proofs.StopsClean.{IsDid, did-entered}
+use Rattle.execution.proofs.StopsClean.{IsDid, did-interrupt}
 
 -- IE with any of three lines, as a step tests it
 either-line : (e i t j : Bool) → e && (i || t || j) ≡ (i || t) && e || j && e
@@ -28,22 +28,6 @@ either-line false false true false = refl
 either-line false false false true = refl
 either-line false false false false = refl
 
-none-left : (a b : Bool) → a || b ≡ false → a ≡ false
-none-left true b e = e
-none-left false b e = refl
-
-none-right : (a b : Bool) → a || b ≡ false → b ≡ false
-none-right true b e = absurd (true≢false e)
-none-right false b e = e
-
-pub cond-true : {A : Type 0} (t : Bool) (x y : A) → t ≡ true → cond t x y ≡ x
-cond-true true x y e = refl
-cond-true false x y e = absurd (false≢true e)
-
-pub cond-false : {A : Type 0} (t : Bool) (x y : A) → t ≡ false → cond t x y ≡ y
-cond-false true x y e = absurd (true≢false e)
-cond-false false x y e = refl
-
 opened : (b z e l : Bool) → b ≡ true → z ≡ false → b && not z && e && l ≡ e && l
 opened b z e l p q = rw (p, q)
 
@@ -53,33 +37,31 @@ module _ (m : Lh5801) where
   unfolding reachedOf
   reached-same f e = cond-both (λ k. f k ≡ f m) (m .«is_timer_reached») (moved m) m e refl
 
+  lines : Requested m true false (moved m)
+  lines = requested m true false
+
   reached-ir0 : reachedOf m .ir0 ≡ m .ir0
-  unfolding with-ir1 with-is-timer-reached
-  reached-ir0 = reached-same (λ k. k .ir0) refl
+  reached-ir0 = reached-same (λ k. k .ir0) (ap (λ (s : Status). s .ir0) (lines .is))
 
   reached-ir2 : reachedOf m .ir2 ≡ m .ir2
-  unfolding with-ir1 with-is-timer-reached
-  reached-ir2 = reached-same (λ k. k .ir2) refl
+  reached-ir2 = reached-same (λ k. k .ir2) (ap (λ (s : Status). s .ir2) (lines .is))
 
   reached-t : reachedOf m .t ≡ m .t
-  unfolding with-ir1 with-is-timer-reached
-  reached-t = reached-same (λ k. k .t) refl
+  reached-t = reached-same (λ k. k .t) (lines .t)
 
   pub reached-p : reachedOf m .p ≡ m .p
-  unfolding with-ir1 with-is-timer-reached
-  reached-p = reached-same (λ k. k .p) refl
+  reached-p = reached-same (λ k. k .p) (lines .p)
 
   reached-halted : reachedOf m .«is_halted» ≡ m .«is_halted»
-  unfolding with-ir1 with-is-timer-reached
-  reached-halted = reached-same (λ k. k .«is_halted») refl
+  reached-halted = reached-same (λ k. k .«is_halted») (ap (λ (s : Status). s .halted) (lines .is))
 
   reached-ir1 : reachedOf m .ir1 ≡ m .ir1 || m .«is_timer_reached»
-  unfolding reachedOf with-ir1 with-is-timer-reached
+  unfolding reachedOf
   reached-ir1 = go (m .«is_timer_reached») (m .ir1) refl
     where
       go : (t i : Bool) → m .ir1 ≡ i → cond t (moved m) m .ir1 ≡ i || t
-      go true true e = refl
-      go true false e = refl
+      go true true e = ap (λ (s : Status). s .ir1) (lines .is)
+      go true false e = ap (λ (s : Status). s .ir1) (lines .is)
       go false true e = e
       go false false e = e
 
@@ -103,15 +85,15 @@ module _ (m : Lh5801) where
     unfolding stepOf
     off-step b = subst (Always IsDid) (sym (cond-false (m .bf) _ _ b)) tt
 
-    pub frozen-step : m .bf ≡ true → m .ir0 ≡ true → Always IsDid (stepOf m inputs)
+    pub held-step : m .bf ≡ true → m .ir0 ≡ true → Always IsDid (stepOf m inputs)
     unfolding stepOf poweredOf
-    frozen-step b z = subst (Always IsDid) (sym (cond-true (m .bf) _ _ b ∙ cond-true (reachedOf m .ir0) _ _ (reached-ir0 ∙ z))) tt
+    held-step b z = subst (Always IsDid) (sym (cond-true (m .bf) _ _ b ∙ cond-true (reachedOf m .ir0) _ _ (reached-ir0 ∙ z))) tt
 
     -- else the two tests decide, and then halted
     tested : Bool → Bool → Prog StepEnd
     tested i j =
-        cond i (enteredOf (with-ir1 (reachedOf m) false) 0xFFFA)
-        (cond j (enteredOf (with-ir2 (reachedOf m) false) 0xFFF8)
+        cond i (interruptOf (with-ir1 (reachedOf m) false) 0xFFFA)
+        (cond j (interruptOf (with-ir2 (reachedOf m) false) 0xFFF8)
         (cond (reachedOf m .«is_halted») (done (stopped Halted)) (instructionOf (reachedOf m) inputs)))
 
     tested-step : m .bf ≡ true → m .ir0 ≡ false → stepOf m inputs ≡ tested one two
@@ -127,12 +109,12 @@ module _ (m : Lh5801) where
         tested-step b z ∙ cond-false one _ _ (none-left one two e) ∙ cond-false two _ _ (none-right one two e)
         ∙ ap (λ h. cond h (done (stopped Halted)) (instructionOf (reachedOf m) inputs)) reached-halted
 
-    -- an accepted interrupt is entered
+    -- an interrupt is accepted
     pub accepted-step : m .bf ≡ true → m .ir0 ≡ false → accepted m ≡ true → Always IsDid (stepOf m inputs)
     unfolding tested
     accepted-step b z n = subst (Always IsDid) (sym (tested-step b z)) (go one two (sym (accepted-by b z) ∙ n))
       where
         go : (i j : Bool) → i || j ≡ true → Always IsDid (tested i j)
-        go true j e = did-entered (with-ir1 (reachedOf m) false) 0xFFFA
-        go false true e = did-entered (with-ir2 (reachedOf m) false) 0xFFF8
+        go true j e = did-interrupt (with-ir1 (reachedOf m) false) 0xFFFA
+        go false true e = did-interrupt (with-ir2 (reachedOf m) false) 0xFFF8
         go false false e = absurd (false≢true e)

@@ -11,8 +11,8 @@ use Rattle.pages.specs.Prog.{Prog, done, exec}
 use Rattle.pages.specs.Timer.{addStateOf, timerPartOf}
 use Rattle.pages.proofs.Always.{Always, always-exec}
 use Rattle.execution.specs.declared.Stop.the-variants.{Halted}
-use Rattle.execution.specs.Step.{Kind, off, frozen, StepEnd, did, stopped, instructionOf, enteredOf, reachedOf, poweredOf, stepOf}
-use Rattle.execution.proofs.Programs.{cond-both}
+use Rattle.execution.specs.Step.{Kind, off, held, StepEnd, did, stopped, instructionOf, interruptOf, reachedOf, poweredOf, stepOf}
+use Rattle.execution.proofs.Choices.{cond-both}
 
 -- what holds of a step's record, states and kind; of a step that stops nothing is said
 abbrev pub Did : (Lh5801 → ℕ → Kind → Type 0) → StepEnd → Type 0
@@ -29,17 +29,17 @@ abbrev pub moved : Lh5801 → Lh5801
 moved m = with-is-timer-reached (with-ir1 m true) false
 
 module _ (R : Prog StepEnd → Type 0) (m : Lh5801) (inputs : Inputs) where
-  pub powered-ways : R (done (did (timerPartOf m) 0 frozen))
-      → R (enteredOf (with-ir1 m false) 0xFFFA)
-      → R (enteredOf (with-ir2 m false) 0xFFF8)
+  pub powered-ways : R (done (did (timerPartOf m) 0 held))
+      → R (interruptOf (with-ir1 m false) 0xFFFA)
+      → R (interruptOf (with-ir2 m false) 0xFFF8)
       → R (done (stopped Halted))
       → R (instructionOf m inputs)
       → R (poweredOf m inputs)
   unfolding poweredOf
   powered-ways f one two h i =
-      cond-both R (m .ir0) (done (did (timerPartOf m) 0 frozen)) _ f
-      (cond-both R (m .ir1 && hasFlag (m .t) IE) (enteredOf (with-ir1 m false) 0xFFFA) _ one
-      (cond-both R (m .ir2 && hasFlag (m .t) IE) (enteredOf (with-ir2 m false) 0xFFF8) _ two
+      cond-both R (m .ir0) (done (did (timerPartOf m) 0 held)) _ f
+      (cond-both R (m .ir1 && hasFlag (m .t) IE) (interruptOf (with-ir1 m false) 0xFFFA) _ one
+      (cond-both R (m .ir2 && hasFlag (m .t) IE) (interruptOf (with-ir2 m false) 0xFFF8) _ two
       (cond-both R (m .«is_halted») (done (stopped Halted)) (instructionOf m inputs) h i)))
 
   pub step-ways : R (done (did (addStateOf m 8) 8 off)) → R (poweredOf (moved m) inputs) → R (poweredOf m inputs) → R (stepOf m inputs)

@@ -7,10 +7,8 @@ use Rattle.arithmetic.specs.declared.record.Lh5801.{Lh5801}
 use Rattle.arithmetic.specs.Flags.{IE, hasFlag}
 use Rattle.pages.specs.Pages.{Pages, at}
 use Rattle.pages.specs.Stack.{up16}
-use Rattle.execution.specs.declared.instructions.Decoded.the-variants.{Unlisted}
 use Rattle.execution.specs.declared.Fetched.{Fetched}
-use Rattle.execution.specs.Opcodes.{decoded}
-use Rattle.execution.specs.OpcodesFd.{decodedFd}
+use Rattle.execution.specs.Listed.{listedFirst, listedAfterFd}
 use Rattle.execution.specs.Step.{Kind, StepEnd, did, fetched}
 
 -- document 01's "accepted": BF set, IR0 clear, IE set, and IR1 set, timer reached, or IR2 set
@@ -38,19 +36,18 @@ firstByte m pages = at pages (m .p)
 abbrev pub secondByte : Lh5801 → Pages → ℕ
 secondByte m pages = at pages (up16 (m .p))
 
--- 5: "first byte unlisted"
+-- 5: "first byte unlisted". FD is listed
 pub record FirstUnlisted (m : Lh5801) (pages : Pages) (b : ℕ) : Type 0 where
   pub due : Due m
   pub first : firstByte m pages ≡ b
-  pub other : ¬ (b ≡ 0xFD)
-  pub unlisted : decoded b ≡ Unlisted
+  pub unlisted : listedFirst b ≡ false
 
 -- 6: "byte after FD", "that byte unlisted"
 pub record SecondUnlisted (m : Lh5801) (pages : Pages) (b : ℕ) : Type 0 where
   pub due : Due m
   pub first : firstByte m pages ≡ 0xFD
   pub second : secondByte m pages ≡ b
-  pub unlisted : decodedFd b ≡ Unlisted
+  pub unlisted : listedAfterFd b ≡ false
 
 -- the opcode that the pages hold at p
 abbrev pub opcodeAt : Pages → ℕ → Fetched

@@ -1,19 +1,17 @@
 -- What each instruction kind does: a `do` block over accesses for each, in the order of the arm's own accesses. The states that the opcode
 -- table prints are added after this (Step.antt); only what a taken branch, LOP or vector adds is added here.
-use Prim.Native.Nat.{ℕ, _+_, _-_, _*_, _/_, _%_, _^_}
+use Prim.Native.Nat.{ℕ, _+_, _-_, _%_, _^_}
 use mathlib.Core.Bool.{Bool, true, false, not, cond}
-use lib.Dec.{eqb}
 use lib.Bits.{bitAnd, bitOr}
 use Rattle.arithmetic.specs.declared.record.Lh5801.{Lh5801}
 use Rattle.execution.specs.declared.Inputs.{Inputs}
 use Rattle.arithmetic.specs.declared.Sum.{Sum}
-use Rattle.arithmetic.specs.declared.Moved.{Moved}
 use Rattle.arithmetic.specs.Record.{with-a, with-t, with-x, with-y, with-u, with-s, with-p, with-is-halted, with-pu, with-pv, with-bf, with-disp, with-tm, with-step-previous-state}
 use Rattle.arithmetic.specs.Flags.{CF, IE, ZF, VF, HF, hasFlag, setFlag, checkZ}
 use Rattle.arithmetic.specs.Sums.{addOf, withSum, adcOf, sbcOf, cpaOf, incOf, decOf, adrOf}
 use Rattle.arithmetic.specs.Decimal.{dcaOf, dcsOf}
 use Rattle.arithmetic.specs.Logic.{ldaOf, andOf, oraOf, eorOf, bitTestOf, ttaOf}
-use Rattle.arithmetic.specs.Shifts.{rolOf, rorOf, shlOf, shrOf, lopOf as loopedOf, aexOf, drlOf as drlMoved, drrOf as drrMoved}
+use Rattle.arithmetic.specs.Shifts.{rolOf, rorOf, shlOf, shrOf, loopedOf, aexOf, drlMoved, drrMoved}
 use Rattle.pages.specs.Prog.{Prog, done, read, write, _>>=_}
 use Rattle.pages.specs.Stack.{up16, down16, readopOf, readopWordOf, mem16Of, pushOf, pushWordOf, popOf, popWordOf}
 use Rattle.pages.specs.Timer.{addStateOf}
@@ -92,7 +90,8 @@ biiOf m place = do
   imm ← readopOf (l .p)
   done (bitTestOf (with-p m (imm .p)) mem (imm .value))
 
--- DRR and DRL: the byte at X is read, the moved one written there, and A is the byte that was read
+-- DRR and DRL: the byte at X is read, the moved one written there, and A is the byte that was read. They have no operand in the code, so
+-- P stays after the opcode
 unfoldable pub drrOf : Lh5801 → Page → Prog Lh5801
 drrOf m page = do
   b ← read (addressOf (m .x) page)
@@ -183,7 +182,7 @@ branchOf m c forward = do
   f ← readopOf (m .p)
   done (cond (holdsOf (m .t) c) (branchedOf m (f .p) (f .value) forward) (with-p m (f .p)))
 
--- LOP: the operand is read, UL is tested and counted down (`arithmetic`'s `lopOf`), and where it was not 0 the branch goes backward
+-- LOP: the operand is read, UL is tested and counted down (`arithmetic`'s `loopedOf`), and where it was not 0 the branch goes backward
 unfoldable pub lopOf : Lh5801 → Prog Lh5801
 lopOf m = do
   f ← readopOf (m .p)

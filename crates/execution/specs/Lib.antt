@@ -1,14 +1,11 @@
 pub mod Inputs
 pub mod Places
-pub mod Operands
 pub mod Instructions
 pub mod Opcodes
 pub mod OpcodesFd
-pub mod Chain
 pub mod Listed
 pub mod States
 pub mod Stops
 pub mod Step
-pub mod Due
-pub mod Counters
+pub mod Code
 pub mod Conditions

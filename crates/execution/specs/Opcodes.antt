@@ -1,6 +1,6 @@
 -- The opcodes of the first page, from the arms of `instruction` in lh5801.rs and document 01, "Opcodes": a row for each high digit, and in it
 -- 16 entries, the column behind each. An entry is the instruction with its operand place and its states: the number that the arm adds,
--- without what a taken branch, LOP or a vector adds (`addedWhenTaken` in Listed.antt). —— is an unlisted byte.
+-- without what a taken branch, LOP or a vector adds (`addedWhenTaken` in States.antt). —— is an unlisted byte.
 -- Places: In (Low X) is XL; Pointer Me0 X is the byte of page 0 that X points to; Fixed Me0 is the byte of page 0 at the word in the code;
 -- InCode is the byte in the code; Missing is the register that the LH5801 does not have.
 use Prim.Native.Nat.{ℕ, _/_, _%_}
@@ -84,21 +84,6 @@ row7 =
     —— ∷ —— ∷  -- 0 1
     Listed (Dec Missing) 5 ∷  -- 2
     —— ∷ —— ∷ —— ∷ —— ∷ —— ∷ —— ∷ —— ∷ —— ∷ —— ∷ —— ∷ —— ∷ —— ∷ —— ∷  -- 3 to F
-    []
-
--- What rows 8, 9 and A have in common, at X, Y and U: A with the high half, and DCA.
-abbrev pub shared8 : Register → List Decoded
-shared8 r =
-    Listed (Alu Sbc (In (High r))) 6 ∷  -- 0
-    —— ∷  -- 1
-    Listed (Alu Adc (In (High r))) 6 ∷  -- 2
-    —— ∷  -- 3
-    Listed (Alu Lda (In (High r))) 5 ∷  -- 4
-    —— ∷  -- 5
-    Listed (Alu Cpa (In (High r))) 6 ∷  -- 6
-    —— ∷ —— ∷ —— ∷ —— ∷ —— ∷  -- 7 to B
-    Listed (Alu Dca (Pointer Me0 r)) 15 ∷  -- C
-    —— ∷ —— ∷ —— ∷  -- D to F
     []
 
 -- Rows 8 and 9, the branches forward and backward; at8 and atA stand in columns 8 and A.

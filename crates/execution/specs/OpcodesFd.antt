@@ -1,7 +1,7 @@
 -- The opcodes after FD, from the arms of `instruction_fd` in lh5801.rs and document 01, "Opcodes", laid out as the first page in
 -- Opcodes.antt. The states are those of the whole instruction: FD by itself adds none.
 use Prim.Native.Nat.{ℕ, _/_, _%_}
-use mathlib.Core.Bool.{Bool, true, false}
+use mathlib.Core.Bool.{true, false}
 use mathlib.Core.List.{List, [], _∷_}
 use lib.ListN.{getD}
 use Rattle.execution.specs.declared.places.Register.{Register}

@@ -48,7 +48,8 @@ codeByte b next = record { value = b; p = next }
 abbrev pub located : ℕ → ℕ → Located
 located at next = record { addr = at; p = next }
 
--- the address of a place in memory, and P after it was found. A half and a byte in the code have none, and no instruction asks for it
+-- the address of a place in memory, and P after it was found. A half and a byte in the code have none, and no entry of the opcode tables asks
+-- for it (`listed-places`, proofs/Listed.antt)
 unfoldable pub locateOf : Lh5801 → Place → Prog Located
 locateOf m (HalfAt h) = done (located 0 (m .p))
 locateOf m (Pointer page r) = done (located (addressOf (wordIn m r) page) (m .p))

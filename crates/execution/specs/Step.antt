@@ -7,9 +7,8 @@ use Rattle.execution.specs.declared.Inputs.{Inputs}
 use Rattle.arithmetic.specs.Record.{with-p, with-ir1, with-ir2, with-is-timer-reached}
 use Rattle.arithmetic.specs.Flags.{IE, hasFlag}
 use Rattle.pages.specs.Prog.{Prog, done, _>>=_}
-use Rattle.pages.specs.Stack.{readopOf, entryOf}
+use Rattle.pages.specs.Stack.{readopOf, acceptOf}
 use Rattle.pages.specs.Timer.{addStateOf, timerPartOf}
-use Rattle.execution.specs.declared.instructions.Instruction.{Instruction}
 use Rattle.execution.specs.declared.instructions.Decoded.{Decoded}
 use Rattle.execution.specs.declared.instructions.Decoded.the-variants.{Listed, Unlisted}
 use Rattle.execution.specs.declared.Fetched.{Fetched}
@@ -22,24 +21,24 @@ use Rattle.execution.specs.Opcodes.{decoded}
 use Rattle.execution.specs.OpcodesFd.{decodedFd}
 use Rattle.execution.specs.States.{addedOf}
 
--- what a completed step was: BF was off, IR0 held it, an interrupt was entered at a vector, or an instruction was executed, after FD or not
+-- what a completed step was: BF was off, IR0 held it, an interrupt was accepted, with its vector, or an instruction was executed, after FD or not
 pub data Kind : Type 0 where
   off : Kind
-  frozen : Kind
-  entry : ℕ → Kind
+  held : Kind
+  interrupt : ℕ → Kind
   instruction : Bool → ℕ → Kind
 
 -- the least and the greatest number of states of a completed step
 abbrev pub fewestStates : Kind → ℕ
 fewestStates off = 8
-fewestStates frozen = 0
-fewestStates (entry vector) = 0
+fewestStates held = 0
+fewestStates (interrupt vector) = 0
 fewestStates (instruction fd byte) = 4
 
 abbrev pub mostStates : Kind → ℕ
 mostStates off = 8
-mostStates frozen = 0
-mostStates (entry vector) = 0
+mostStates held = 0
+mostStates (interrupt vector) = 0
 mostStates (instruction fd byte) = 23
 
 -- how a step ends. It is document 01's "completed step", with the record after it, its states and what it was; or it stops, and then the
@@ -75,22 +74,22 @@ unlistedBy true byte = UnlistedFd byte
 unlistedBy false byte = UnlistedByte byte
 
 -- what a decoded byte does: its states are those that the table prints and those that it adds where it is taken
-unfoldable pub obeyOf : Lh5801 → Inputs → Fetched → Decoded → Prog StepEnd
-obeyOf m inputs o (Listed i n) = do
+unfoldable pub decodedStepOf : Lh5801 → Inputs → Fetched → Decoded → Prog StepEnd
+decodedStepOf m inputs o (Listed i n) = do
   k ← executeOf (with-p m (o .p)) inputs i
   done (did (timerPartOf (addStateOf k n)) (n + addedOf m i) (instruction (o .fd) (o .byte)))
-obeyOf m inputs o Unlisted = done (stopped (unlistedBy (o .fd) (o .byte)))
+decodedStepOf m inputs o Unlisted = done (stopped (unlistedBy (o .fd) (o .byte)))
 
 unfoldable pub instructionOf : Lh5801 → Inputs → Prog StepEnd
 instructionOf m inputs = do
   o ← fetchOf (m .p)
-  obeyOf m inputs o (decodedBy (o .fd) (o .byte))
+  decodedStepOf m inputs o (decodedBy (o .fd) (o .byte))
 
--- an interrupt that is entered: no states are added
-unfoldable pub enteredOf : Lh5801 → ℕ → Prog StepEnd
-enteredOf m vector = do
-  k ← entryOf m vector
-  done (did (timerPartOf k) 0 (entry vector))
+-- an accepted interrupt: no states are added
+unfoldable pub interruptOf : Lh5801 → ℕ → Prog StepEnd
+interruptOf m vector = do
+  k ← acceptOf m vector
+  done (did (timerPartOf k) 0 (interrupt vector))
 
 -- "Timer reached moves to IR1"
 unfoldable pub reachedOf : Lh5801 → Lh5801
@@ -99,9 +98,9 @@ reachedOf m = cond (m .«is_timer_reached») (with-is-timer-reached (with-ir1 m 
 -- with BF set: IR0; else IR1 with IE; else IR2 with IE; else halted, stop 7; else one instruction
 unfoldable pub poweredOf : Lh5801 → Inputs → Prog StepEnd
 poweredOf m inputs =
-    cond (m .ir0) (done (did (timerPartOf m) 0 frozen))
-    (cond (m .ir1 && hasFlag (m .t) IE) (enteredOf (with-ir1 m false) 0xFFFA)
-    (cond (m .ir2 && hasFlag (m .t) IE) (enteredOf (with-ir2 m false) 0xFFF8)
+    cond (m .ir0) (done (did (timerPartOf m) 0 held))
+    (cond (m .ir1 && hasFlag (m .t) IE) (interruptOf (with-ir1 m false) 0xFFFA)
+    (cond (m .ir2 && hasFlag (m .t) IE) (interruptOf (with-ir2 m false) 0xFFF8)
     (cond (m .«is_halted») (done (stopped Halted))
     (instructionOf m inputs))))
 

@@ -1,4 +1,4 @@
-// Instructions, as decoding hands them over. The names are those of lh5801.rs or of the manual.
+// Instructions, as decoding hands them over. The names are those of lh5801.rs or of the manual where there is one; the others, such as Memory or ToX, say in plain words what the kind does.
 use crate::places::Half;
 use crate::places::Page;
 use crate::places::Place;

@@ -7,7 +7,7 @@ ghost use Rattle.pages.specs.Prog.{mapped};
 ghost use Rattle.pages.specs.Contract.{Changes, Reads};
 ghost use Rattle.execution.specs.Instructions.{executeOf};
 ghost use Rattle.execution.specs.Step.{outcomeOf, fetchOf, decodedBy, unlistedBy, reachedOf, stepOf};
-ghost use Rattle.execution.specs.Due.{dueOf, Ready, settledOnA, settledSignal, settledOf, executedOf, DueAgain};
+ghost use Rattle.execution.specs.Code.Due.{dueOf, Ready, settledOnA, settledSignal, settledOf, executedOf, DueAgain};
 ghost use Rattle.execution.specs.Inputs.{ofKeyboard};
 use crate::instructions::Accumulator;
 use crate::instructions::Decoded;
@@ -237,7 +237,7 @@ fn vector_of(cpu: Lh5801) -> u16
 }
 
 // The record without that request.
-fn answered(cpu: Lh5801) -> Lh5801
+fn acknowledged(cpu: Lh5801) -> Lh5801
     ensures { λ r. ⌜ r ≡ cond (cpu .ir1) (with-ir1 cpu false) (with-ir2 cpu false) ⌝ }
 {
     if cpu.ir1 {
@@ -248,7 +248,7 @@ fn answered(cpu: Lh5801) -> Lh5801
 }
 
 // A step with BF set and timer reached clear in which no instruction is due.
-fn held(cpu: Lh5801, page0: &mut [u8], page1: &mut [u8], inputs: Inputs) -> Outcome
+fn powered_step(cpu: Lh5801, page0: &mut [u8], page1: &mut [u8], inputs: Inputs) -> Outcome
     requires { ⌜ (cpu .tm < 512) × (cpu .bf ≡ true) × (cpu .«is_timer_reached» ≡ false) × (dueOf cpu ≡ false) ⌝ }
     ensures { λ r. ⌜ Changes (mapped outcomeOf (stepOf cpu inputs)) page0 page1 r ⌝ }
 {
@@ -257,7 +257,7 @@ fn held(cpu: Lh5801, page0: &mut [u8], page1: &mut [u8], inputs: Inputs) -> Outc
     }
     if (cpu.ir1 | cpu.ir2) & arithmetic::get_flag(cpu.t, arithmetic::IE) {
         let at = vector_of(cpu);
-        let next = pages::accept(answered(cpu), page0, page1, at);
+        let next = pages::accept(acknowledged(cpu), page0, page1, at);
         return Outcome::Completed(pages::timer_part(next));
     }
     Outcome::Stopped(Stop::Halted)
@@ -279,7 +279,7 @@ pub fn step_cpu(cpu: Lh5801, page0: &mut [u8], page1: &mut [u8], inputs: Inputs)
     ensures { λ r. ⌜ Changes (mapped outcomeOf (stepOf cpu inputs)) page0 page1 r ⌝ }
 {
     if cpu.bf {
-        held(reached(cpu), page0, page1, inputs)
+        powered_step(reached(cpu), page0, page1, inputs)
     } else {
         Outcome::Completed(pages::add_state(cpu, 8))
     }

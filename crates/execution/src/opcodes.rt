@@ -4,7 +4,7 @@
 ghost use mathlib.Core.Path.{_≡_};
 ghost use lib.ListN.{take, drop};
 ghost use Rattle.execution.specs.Opcodes.{rows, decoded};
-ghost use Rattle.execution.specs.Chain.{chained};
+ghost use Rattle.execution.specs.Code.Chain.{chained};
 use crate::entries;
 use crate::instructions::Accumulator;
 use crate::instructions::Change;

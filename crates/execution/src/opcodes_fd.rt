@@ -2,7 +2,7 @@
 ghost use mathlib.Core.Path.{_≡_};
 ghost use lib.ListN.{drop};
 ghost use Rattle.execution.specs.OpcodesFd.{rowsFd, decodedFd};
-ghost use Rattle.execution.specs.Chain.{chained};
+ghost use Rattle.execution.specs.Code.Chain.{chained};
 use crate::entries;
 use crate::instructions::Accumulator;
 use crate::instructions::Change;

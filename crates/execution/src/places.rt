@@ -2,7 +2,7 @@
 ghost use mathlib.Core.Path.{_≡_};
 ghost use Rattle.pages.specs.Contract.{Reads};
 ghost use Rattle.execution.specs.Places.{wordIn, withWord, halfIn, withHalf, addressOf};
-ghost use Rattle.execution.specs.Operands.{chosen, registerOf, registerAt, halfOf, fixedAt, locateAt, operandAt};
+ghost use Rattle.execution.specs.Code.Operands.{chosen, registerOf, registerAt, halfOf, fixedAt, locateAt, operandAt};
 use arithmetic::record::Lh5801;
 use pages::CodeByte;
 

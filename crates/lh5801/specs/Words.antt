@@ -1,38 +1,41 @@
 -- The sixteen words of the C entry: the record and the answer as numbers of 64 bits.
-use Prim.Native.Nat.{ℕ, _%_}
-use mathlib.Core.List.{List, [], _∷_}
+use Prim.Native.Nat.{ℕ, _-_, _%_, _^_}
+use mathlib.Core.Bool.{cond}
+use mathlib.Core.List.{List, [], _∷_, _++_}
 use mathlib.Core.Path.{_≡_}
+use lib.Dec.{ltb}
 use lib.ListN.{getD}
 use Rattle.arithmetic.specs.declared.record.Lh5801.{Lh5801}
 use Rattle.pages.specs.Pages.{Pages}
 use Rattle.run.specs.declared.Answer.{Answer}
-use Rattle.run.specs.Entry.{endNumber, endByte}
-use Rattle.run.specs.Run.{Outcome}
-use Rattle.run.specs.CampaignFile.{cpuOf, flagsOf}
+use Rattle.run.specs.Acceptance.{endNumber, endByte}
+use Rattle.run.specs.Run.{CallResult}
+use Rattle.run.specs.RecordNumbers.{recordNumbers, recordOf, AllWithin, widths}
 
--- words 0 to 11: A T X Y U S P TM flags timer-states previous ticks. A word above its field's width counts modulo the width: 8 bits for A and
--- T, 16 for X, Y, U, S, P and TM, 9 for the flags, whose bits are those of the campaign file
-unfoldable pub recordOf : List ℕ → Lh5801
-recordOf w =
-    cpuOf
-    (record { a = getD w 0 0 % 256; t = getD w 1 0 % 256 })
-    (record { x = getD w 2 0 % 65536; y = getD w 3 0 % 65536; u = getD w 4 0 % 65536; s = getD w 5 0 % 65536; p = getD w 6 0 % 65536 })
-    (record {
-      tm = getD w 7 0 % 65536;
-      flags = getD w 8 0 % 512;
-      «timer_state» = getD w 9 0;
-      «step_previous_state» = getD w 10 0;
-      ticks = getD w 11 0;
-    })
+-- words 0 to 11 are the record's numbers, each taken at its field's width: modulo 256 or 65,536. A TM above 65,535 counts as 65,535, which is
+-- too large as well. Of the flags the nine lowest bits are looked at
+unfoldable pub takenOf : List ℕ → List ℕ
+takenOf words =
+    getD words 0 0 % 256 ∷ getD words 1 0 % 256
+    ∷ getD words 2 0 % 65536 ∷ getD words 3 0 % 65536 ∷ getD words 4 0 % 65536 ∷ getD words 5 0 % 65536 ∷ getD words 6 0 % 65536
+    ∷ cond (ltb 65535 (getD words 7 0)) 65535 (getD words 7 0)
+    ∷ getD words 8 0 ∷ getD words 9 0 ∷ getD words 10 0 ∷ getD words 11 0 ∷ []
 
--- the same fields after the call, and then document 01's number, byte, steps and states
-unfoldable pub wordsOf : Answer → List ℕ
-wordsOf r =
-    r .cpu .a ∷ r .cpu .t ∷ r .cpu .x ∷ r .cpu .y ∷ r .cpu .u ∷ r .cpu .s ∷ r .cpu .p ∷ r .cpu .tm ∷ flagsOf (r .cpu)
-    ∷ r .cpu .«timer_state» ∷ r .cpu .«step_previous_state» ∷ r .cpu .ticks
-    ∷ endNumber (r .end) ∷ endByte (r .end) ∷ r .steps ∷ r .states ∷ []
+abbrev pub cpuOf : List ℕ → Lh5801
+cpuOf words = recordOf (takenOf words)
 
--- what the entry leaves: the words and the pages of the definition's call
-pub record Left (o : Outcome) (words : List ℕ) (after : Pages) : Type 0 where
-  pub told : words ≡ wordsOf (o .told)
+-- the record's numbers after the call, and then document 01's number, byte, steps and states
+abbrev pub wordsOf : Answer → List ℕ
+wordsOf r = recordNumbers (r .cpu) ++ (endNumber (r .end) ∷ endByte (r .end) ∷ r .steps ∷ r .states ∷ [])
+
+-- the greatest values of the words that come back
+abbrev pub wordWidths : List ℕ
+wordWidths = widths ++ (7 ∷ 255 ∷ (2 ^ 32 - 1) ∷ (2 ^ 64 - 1) ∷ [])
+
+-- what the entry leaves: the words and the pages of the definition's call. A call that is passed these words starts from the record that this
+-- one ended with
+pub record Left (o : CallResult) (words : List ℕ) (after : Pages) : Type 0 where
+  pub words-are : words ≡ wordsOf (o .answer)
+  pub within : AllWithin wordWidths words
+  pub continues : cpuOf words ≡ o .answer .cpu
   pub pages : after ≡ o .pages

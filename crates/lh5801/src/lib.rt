@@ -1,71 +1,69 @@
 // The entry that a C or Rust program links: one run call.
 ghost use mathlib.Core.Path.{_≡_};
+ghost use mathlib.Core.Bool.{cond};
+ghost use lib.Dec.{ltb};
 ghost use Rattle.pages.specs.Contract.{atEntry, atExit};
 ghost use Rattle.execution.specs.Inputs.{ofKeyboard};
+ghost use Rattle.run.specs.RecordNumbers.{AllWithin};
 ghost use Rattle.run.specs.Run.{callOf, settings};
-ghost use Rattle.lh5801.specs.Words.{recordOf, wordsOf, Left};
-use arithmetic::record::Lh5801;
+ghost use Rattle.lh5801.specs.Words.{takenOf, cpuOf, wordsOf, wordWidths, Left};
 use execution::Inputs;
 use run::Answer;
 use run::Settings;
-use run::campaign_file;
-use run::campaign_file::Registers;
-use run::campaign_file::Timing;
-use run::campaign_file::Words;
+use run::record_numbers;
 
-// The record of words 0 to 11; a word above its field's width counts modulo the width.
-fn record_of(words: &[u64; 16]) -> Lh5801
-    ensures { λ r. ⌜ r ≡ recordOf (now (words .entry)) ⌝ }
+// A number of at most 16 bits; a larger one counts as the largest of them.
+fn limited(value: u64) -> u64
+    ensures { λ r. ⌜ r ≡ cond (ltb 65535 value) 65535 value ⌝ }
 {
-    let registers = Registers {
-        a: (words[0] % 256) as u8,
-        t: (words[1] % 256) as u8,
-    };
-    let pairs = Words {
-        x: (words[2] % 65536) as u16,
-        y: (words[3] % 65536) as u16,
-        u: (words[4] % 65536) as u16,
-        s: (words[5] % 65536) as u16,
-        p: (words[6] % 65536) as u16,
-    };
-    let timing = Timing {
-        tm: (words[7] % 65536) as u16,
-        flags: (words[8] % 512) as u16,
-        timer_state: words[9],
-        step_previous_state: words[10],
-        ticks: words[11],
-    };
-    campaign_file::cpu_of(registers, pairs, timing)
+    if 65535 < value { 65535 } else { value }
 }
 
-// 16 bits as a word.
-fn wide(value: u16) -> u64
-    ensures { λ r. ⌜ r ≡ value ⌝ }
+// Words 0 to 11, each taken at its field's width.
+fn taken(words: &[u64; 16]) -> [u64; 12]
+    ensures { λ r. ⌜ r ≡ takenOf (now (words .entry)) ⌝ }
 {
-    value as u64
+    let tm = limited(words[7]);
+    [
+        words[0] % 256,
+        words[1] % 256,
+        words[2] % 65536,
+        words[3] % 65536,
+        words[4] % 65536,
+        words[5] % 65536,
+        words[6] % 65536,
+        tm,
+        words[8],
+        words[9],
+        words[10],
+        words[11],
+    ]
 }
 
-// All sixteen words of an answer.
+// All sixteen words of an answer, each within its width.
 fn words_of(r: Answer) -> [u64; 16]
-    ensures { λ w. ⌜ w ≡ wordsOf r ⌝ }
+    ensures { λ w. ⌜ (w ≡ wordsOf r) × AllWithin wordWidths (wordsOf r) ⌝ }
 {
     let cpu = r.cpu;
     let end = r.end;
+    let numbers = record_numbers::numbers_of(cpu);
+    let number = record_numbers::byte(run::number(end));
+    let byte = record_numbers::byte(run::byte(end));
     [
-        cpu.a as u64,
-        cpu.t as u64,
-        wide(cpu.x),
-        wide(cpu.y),
-        wide(cpu.u),
-        wide(cpu.s),
-        wide(cpu.p),
-        wide(cpu.tm),
-        wide(run::line::flags_of(cpu)),
-        cpu.timer_state,
-        cpu.step_previous_state,
-        cpu.ticks,
-        run::number(end) as u64,
-        run::byte(end) as u64,
+        numbers[0],
+        numbers[1],
+        numbers[2],
+        numbers[3],
+        numbers[4],
+        numbers[5],
+        numbers[6],
+        numbers[7],
+        numbers[8],
+        numbers[9],
+        numbers[10],
+        numbers[11],
+        number,
+        byte,
         r.steps as u64,
         r.states,
     ]
@@ -80,9 +78,10 @@ pub extern "C" fn lh5801_run(
     keyboard: u8,
     limit: u32,
 )
-    ensures { λ _. ⌜ Left (callOf (settings (ofKeyboard keyboard) limit) (recordOf (now (words .entry))) (atEntry page0 page1)) (now (words .exit)) (atExit page0 page1) ⌝ }
+    ensures { λ _. ⌜ Left (callOf (settings (ofKeyboard keyboard) limit) (cpuOf (now (words .entry))) (atEntry page0 page1)) (now (words .exit)) (atExit page0 page1) ⌝ }
 {
-    let cpu = record_of(words);
+    let numbers = taken(words);
+    let cpu = record_numbers::record_of(&numbers);
     let inputs = Inputs::of_keyboard(keyboard);
     let settings = Settings {
         inputs: inputs,

@@ -6,7 +6,7 @@ use Prim.Native.Nat.{ℕ}
 use lib.Dec.{T, eqb, eqb-refl}
 use Rattle.pages.specs.Pages.{Pages, at, inside, stored, store, SameLength}
 use Rattle.pages.specs.Prog.{Prog, done, get, put, Access, readOf, writeOf, Ran, after, exec}
-use Rattle.pages.specs.Written.{readFirst, Agree, Alike}
+use Rattle.pages.specs.Written.{readFirst, Agree}
 use Rattle.pages.proofs.Pages.{long-sym, long-trans, store-long, inside-long, stored-long, at-store, at-outside}
 
 or-left : (a b : Bool) → T a → T (a || b)
@@ -54,6 +54,12 @@ agree-write m n b v t s h a i f =
     go : (x : Bool) → (T (not x && readFirst m a t) → at n a ≡ at m a) → cond x v (at n a) ≡ cond x v (at m a)
     go true g = refl
     go false g = g first
+
+-- two runs of a program that come to the same answer by the same accesses, with pages that agree for the accesses t after them
+pub record Alike {A : Type 0} (x y : Ran A) (t : List Access) : Type 0 where
+  pub answer : y .answer ≡ x .answer
+  pub accesses : y .accesses ≡ x .accesses
+  pub agree : Agree (x .pages) (y .pages) t
 
 after-alike : {A : Type 0} (a : Access) (x y : Ran A) (t : List Access) → Alike x y t → Alike (after a x) (after a y) t
 unfolding after

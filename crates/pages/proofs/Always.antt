@@ -25,3 +25,16 @@ unfolding _>>=_
 always-bind Q P (done a) f h g = g a h
 always-bind Q P (get a k) f h g = λ b. always-bind Q P (k b) f (h b) g
 always-bind Q P (put a v p) f h g = always-bind Q P p f h g
+
+-- whatever the first program comes to
+pub always-then : {A B : Type 0} (P : B → Type 0) (p : Prog A) (f : A → Prog B) → ((a : A) → Always P (f a)) → Always P (p >>= f)
+unfolding _>>=_
+always-then P (done a) f h = h a
+always-then P (get a k) f h = λ b. always-then P (k b) f h
+always-then P (put a v p) f h = always-then P p f h
+
+-- and what follows from it
+pub always-map : {A : Type 0} (Q P : A → Type 0) (p : Prog A) → ((a : A) → Q a → P a) → Always Q p → Always P p
+always-map Q P (done a) g h = g a h
+always-map Q P (get a k) g h = λ b. always-map Q P (k b) g (h b)
+always-map Q P (put a v p) g h = always-map Q P p g h

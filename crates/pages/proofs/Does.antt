@@ -6,6 +6,7 @@ use lib.ListN.{getD, set}
 use Rattle.pages.specs.Pages.{Pages, pages, at, store}
 use Rattle.pages.specs.Prog.{Prog, done, _>>=_, mapped, read, write, after, exec}
 use Rattle.pages.specs.Contract.{Does}
+use Rattle.pages.specs.Stack.{up16, readopOf}
 use Rattle.pages.proofs.Pages.{at-page0, at-page1, store-page0, store-page1}
 use Rattle.pages.proofs.Exec.{bind-answer, bind-pages}
 
@@ -45,6 +46,11 @@ does-read a e = record { value = e; pages = refl }
 pub does-write : (a v : ℕ) {m n : Pages} → n ≡ store m a v → Does (write a v) m tt n
 unfolding exec after write
 does-write a v e = record { value = refl; pages = sym e }
+
+-- a byte of the code
+pub does-readop : (p : ℕ) {m : Pages} → Does (readopOf p) m (record { value = at m p; p = up16 p }) m
+unfolding readopOf
+does-readop p = does-then _ (does-read p refl) (does-done refl)
 
 -- one access, by the page that it goes to: only `read_byte` and `write_byte` need these
 pub does-read0 : {a b : ℕ} {l0 l1 : List ℕ} → a < 0x10000 → b ≡ getD l0 a 0xFF → Does (read a) (pages l0 l1) b (pages l0 l1)

@@ -1,5 +1,5 @@
 -- The definitions on concrete pages and counts, by computation: the order and the addresses of accesses, dropped writes, registers that
--- wrap, and the timer at document 01's marked case 7 and at the differences 41, 42 and 84.
+-- wrap, and the timer at the differences 41, 42 and 84.
 use mathlib.Core.Path.{_≡_, refl}
 use mathlib.Core.Bool.{Bool, true, false}
 use mathlib.Core.List.{List, [], _∷_, map}
@@ -97,19 +97,6 @@ pub record TimerExample : Type 0 where
 
 abbrev pub shifts : Timer → Timer → TimerExample
 shifts a b = record { before = a; comes = b }
-
--- marked case 7, as one shift: 1FE to 1FF, reached; 1FF to 0FF, and no longer reached
-unfoldable pub markedCase7 : List TimerExample
-markedCase7 =
-    shifts (timer 0 0 0x1FE false) (timer 0 0 0x1FF true)
-    ∷ shifts (timer 0 0 0x1FF true) (timer 0 0 0x0FF false)
-    ∷ []
-
-pub marked-case-7 : (m : Lh5801)
-    → map (λ (e : TimerExample). timerOf (timerIncOf (set m (e .before)))) markedCase7
-    ≡ map (λ (e : TimerExample). e .comes) markedCase7
-unfolding markedCase7 timerIncOf shiftOf with-tm with-is-timer-reached with-timer-state with-step-previous-state
-marked-case-7 m = refl
 
 -- the timer part after 41, 42 and 84 states, and where previous is above the current count
 unfoldable pub timerParts : List TimerExample

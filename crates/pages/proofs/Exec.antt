@@ -22,6 +22,17 @@ exec-bind (done a) f m = refl
 exec-bind (get a k) f m = ap (after (readOf a (at m a))) (exec-bind (k (at m a)) f m)
 exec-bind (put a v p) f m = ap (after (writeOf a v)) (exec-bind p f (store m a v))
 
+pub done-answer : {A : Type 0} (a : A) (m : Pages) → exec (done a) m .answer ≡ a
+unfolding exec
+done-answer a m = refl
+
+-- a program whose answer is only changed, and then the next
+pub bind-done : {A B C : Type 0} (p : Prog A) (g : A → B) (f : B → Prog C) → (p >>= (λ a. done (g a))) >>= f ≡ p >>= (λ a. f (g a))
+unfolding _>>=_
+bind-done (done a) g f = refl
+bind-done (get a k) g f = λ i. get a (λ b. bind-done (k b) g f i)
+bind-done (put a v p) g f = ap (put a v) (bind-done p g f)
+
 pub bind-answer : {A B : Type 0} (p : Prog A) (f : A → Prog B) (m : Pages)
     → exec (p >>= f) m .answer ≡ exec (f (exec p m .answer)) (exec p m .pages) .answer
 bind-answer p f m = ap (λ x. x .answer) (exec-bind p f m)

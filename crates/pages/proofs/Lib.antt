@@ -3,6 +3,8 @@ pub mod Exec
 pub mod Agree
 pub mod Does
 pub mod Always
+pub mod Within
+pub mod Clean
 pub mod Stack
 pub mod Timer
 pub mod Examples

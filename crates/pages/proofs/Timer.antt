@@ -1,5 +1,5 @@
 -- The laws of the timer.
-use mathlib.Core.Path.{_≡_}
+use mathlib.Core.Path.{_≡_, refl, ap, _∙_}
 use mathlib.Core.Bool.{Bool, true, false, cond}
 use Prim.Native.Nat.{ℕ, _+_, _<_, _≤_, _/_, _%_, _^_}
 use native.Mathlib.Omega.{arith}
@@ -7,9 +7,10 @@ use lib.Bits.{bitXor}
 use lib.Dec.{T, eqb, eqb→eq, leb}
 use borrow.Author.Tests.{le-leb, lt-leb}
 use Rattle.arithmetic.specs.declared.record.Lh5801.{Lh5801}
-use Rattle.arithmetic.specs.Record.{with-tm, with-is-timer-reached, with-step-previous-state}
+use Rattle.arithmetic.specs.Record.{with-tm, with-is-timer-reached, with-timer-state, with-step-previous-state}
+use Rattle.arithmetic.proofs.Status.{Status, statusOf, withTimer, withTicks, keeps-states, status-ticks}
 use Rattle.arithmetic.proofs.Compute.{both, both-left, both-right, every, at as test-at}
-use Rattle.pages.specs.Timer.{shiftOf, timerIncOf, passedOf, timerPartOf}
+use Rattle.pages.specs.Timer.{shiftOf, timerIncOf, addStateOf, passedOf, timerPartOf}
 
 halves : ℕ → Bool
 halves tm = eqb (shiftOf tm % 256) (tm / 2)
@@ -62,6 +63,22 @@ timer-part-small m h = go (leb 42 (passedOf m))
     go : (t : Bool) → cond t (with-step-previous-state (timerIncOf m) (m .«timer_state»)) m .tm < 512
     go true = shift-small (m .tm) h
     go false = h
+
+-- of the status it changes TM and timer reached only, and states that pass change the ticks only
+pub timer-part-status : (m : Lh5801) → statusOf (timerPartOf m) ≡ withTimer (statusOf m) (timerPartOf m .tm) (timerPartOf m .«is_timer_reached»)
+unfolding timerPartOf timerIncOf with-tm with-is-timer-reached with-step-previous-state
+timer-part-status m = go (leb 42 (passedOf m))
+  where
+    after : Bool → Lh5801
+    after t = cond t (with-step-previous-state (timerIncOf m) (m .«timer_state»)) m
+
+    go : (t : Bool) → statusOf (after t) ≡ withTimer (statusOf m) (after t .tm) (after t .«is_timer_reached»)
+    go true = refl
+    go false = refl
+
+pub states-status : (m : Lh5801) (n : ℕ) → statusOf (addStateOf m n) ≡ withTicks (statusOf m) ((m .ticks + n) % 2 ^ 64)
+unfolding addStateOf
+states-status m n = status-ticks (with-timer-state m _) _ ∙ ap (λ (s : Status). withTicks s ((m .ticks + n) % 2 ^ 64)) (keeps-states m _)
 
 -- 41 states passed: nothing changes
 pub passed-41 : (m : Lh5801) → passedOf m ≡ 41 → timerPartOf m ≡ m

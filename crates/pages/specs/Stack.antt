@@ -69,14 +69,14 @@ popWordOf s = do
   low ← read (up16 (up16 s))
   done (record { value = wordOf high low; s = up16 (up16 s) })
 
--- an interrupt's entry: "push T, clear IE, .. push P, P from" its vector, "halted clear". T is pushed with IE still set
+-- an accepted interrupt: "push T, clear IE, .. push P, P from" its vector, "halted clear". T is pushed with IE still set
 unfoldable pub pushStateOf : Lh5801 → Prog Lh5801
 pushStateOf m = do
   k ← pushOf m (m .t)
   pushWordOf (with-t k (setFlag (m .t) IE false)) (m .p)
 
-unfoldable pub entryOf : Lh5801 → ℕ → Prog Lh5801
-entryOf m vector = do
+unfoldable pub acceptOf : Lh5801 → ℕ → Prog Lh5801
+acceptOf m vector = do
   k ← pushStateOf m
   to ← mem16Of vector
   done (with-is-halted (with-p k to) false)

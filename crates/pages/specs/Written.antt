@@ -5,7 +5,7 @@ use mathlib.Core.List.{List, [], _∷_}
 use mathlib.Core.Path.{_≡_}
 use lib.Dec.{T, eqb}
 use Rattle.pages.specs.Pages.{Pages, at, inside, stored, SameLength}
-use Rattle.pages.specs.Prog.{Access, readOf, writeOf, Ran}
+use Rattle.pages.specs.Prog.{Access, readOf, writeOf}
 
 -- a write of the sequence, a dropped one included: its address and its byte
 pub record Write : Type 0 where
@@ -38,9 +38,3 @@ readFirst m a (writeOf b v ∷ l) = not (stored m a && eqb a b) && readFirst m a
 -- the pages n agree with m at each byte of a lent page that the accesses t read before they have written it
 unfoldable pub Agree : Pages → Pages → List Access → Type 0
 Agree m n t = (a : ℕ) → T (inside m a) → T (readFirst m a t) → at n a ≡ at m a
-
--- two runs of a program that come to the same answer by the same accesses, with pages that agree for the accesses t after them
-pub record Alike {A : Type 0} (x y : Ran A) (t : List Access) : Type 0 where
-  pub answer : y .answer ≡ x .answer
-  pub accesses : y .accesses ≡ x .accesses
-  pub agree : Agree (x .pages) (y .pages) t

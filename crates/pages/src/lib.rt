@@ -4,7 +4,7 @@ ghost use Prim.Native.Nat.{_<_};
 ghost use lib.ListN.{getD, set};
 ghost use Rattle.pages.specs.Prog.{read, write};
 ghost use Rattle.pages.specs.Contract.{Changes, Reads};
-ghost use Rattle.pages.specs.Stack.{me1Of, wordOf, readopOf, readopWordOf, mem16Of, pushOf, pushWordOf, popOf, popWordOf, pushStateOf, entryOf};
+ghost use Rattle.pages.specs.Stack.{me1Of, wordOf, readopOf, readopWordOf, mem16Of, pushOf, pushWordOf, popOf, popWordOf, pushStateOf, acceptOf};
 ghost use Rattle.pages.specs.Timer.{addStateOf, timerIncOf, passedOf, timerPartOf};
 use arithmetic::record::Lh5801;
 
@@ -147,9 +147,9 @@ fn push_state(cpu: Lh5801, page0: &mut [u8], page1: &mut [u8]) -> Lh5801
     push_word(first.with_t(t), page0, page1, cpu.p)
 }
 
-// An interrupt's entry.
+// An accepted interrupt.
 pub fn accept(cpu: Lh5801, page0: &mut [u8], page1: &mut [u8], vector: u16) -> Lh5801
-    ensures { λ r. ⌜ Changes (entryOf cpu vector) page0 page1 r ⌝ }
+    ensures { λ r. ⌜ Changes (acceptOf cpu vector) page0 page1 r ⌝ }
 {
     let pushed = push_state(cpu, page0, page1);
     let at = get_mem16(page0, page1, vector);

@@ -8,9 +8,9 @@ use Rattle.arithmetic.specs.declared.Sum.{Sum}
 use Rattle.arithmetic.specs.declared.Moved.{Moved}
 use Rattle.arithmetic.specs.Flags.{checkZ}
 use Rattle.arithmetic.specs.Sums.{addOf, adcOf, sbcOf, cpaOf, incOf, decOf, adrOf}
-use Rattle.arithmetic.specs.Decimal.{decimalOf, dcaOf, dcsOf}
+use Rattle.arithmetic.specs.Decimal.{decimalSumOf, dcaOf, dcsOf}
 use Rattle.arithmetic.specs.Logic.{ldaOf, andOf, oraOf, eorOf, bitTestOf, ttaOf}
-use Rattle.arithmetic.specs.Shifts.{rolOf, rorOf, shlOf, shrOf, aexOf, drlOf, drrOf}
+use Rattle.arithmetic.specs.Shifts.{rolOf, rorOf, shlOf, shrOf, aexOf, drlMoved, drrMoved}
 
 -- a record with this A and T, and nothing else set
 unfoldable pub blankOf : ℕ → ℕ → Lh5801
@@ -72,8 +72,8 @@ answers a t d =
     ∷ ofRecord (shrOf (blankOf a t))
     ∷ packed 0 (aexOf a) t
     ∷ ofRecord (ttaOf (blankOf a t))
-    ∷ ofMoved t (drlOf a d)
-    ∷ ofMoved t (drrOf a d)
+    ∷ ofMoved t (drlMoved a d)
+    ∷ ofMoved t (drrMoved a d)
     ∷ packed 0 a (checkZ t d)
     ∷ []
 
@@ -84,7 +84,7 @@ arithmeticAnswer function a t d = getD (answers a t d) function 0
 -- `add_generic`, or `decimaladd_generic`
 abbrev pub addAnswer : Bool → ℕ → ℕ → ℕ → Bool → ℕ
 addAnswer false t l r c = ofSum 0 (addOf t l r c)
-addAnswer true t l r c = ofSum 0 (decimalOf t l r c)
+addAnswer true t l r c = ofSum 0 (decimalSumOf t l r c)
 
 -- the sum's 16 bits beside T
 abbrev pub adrAnswer : ℕ → ℕ → ℕ → ℕ

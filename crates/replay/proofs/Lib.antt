@@ -1,5 +1,5 @@
 pub mod Summed
 pub mod Stores
 pub mod Compared
-pub mod Told
+pub mod Results
 pub mod Listed

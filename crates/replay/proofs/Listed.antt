@@ -1,4 +1,4 @@
--- The list, entry by entry.
+-- The list, item by item.
 use Prim.Native.Nat.{ℕ, zero, suc, _+_, _≤_, _<_}
 use native.Mathlib.Omega.{arith}
 use mathlib.Core.List.{List}
@@ -7,9 +7,9 @@ use borrow.Author.Tests.{lt-ltb, le-ltb}
 use lib.ListN.{length}
 use Rattle.replay.specs.declared.Found.{Found}
 use Rattle.replay.specs.declared.Tally.{Tally}
-use Rattle.replay.specs.Calls.{entryOf, withFound, replayFrom, replayOf}
+use Rattle.replay.specs.Calls.{itemOf, withFound, replayFrom, replayOf}
 
--- what is counted so far, with the entries from here on, is the whole list's tally
+-- what is counted so far, with the items from here on, is the whole list's tally
 pub record Counted (bytes : List ℕ) (at : ℕ) (tally : Tally) : Type 0 where
   pub more : ℕ
   pub enough : length bytes ≤ more + at
@@ -19,7 +19,7 @@ pub none-counted : (bytes : List ℕ) → Counted bytes 0 (record { calls = 0; d
 unfolding replayOf
 none-counted bytes = record { more = length bytes; enough = omega arith; is = refl }
 
-pub one-counted : {bytes : List ℕ} {at : ℕ} {tally : Tally} {found : Found} → at < length bytes → at + 1 ≤ found .end → found ≡ entryOf bytes at → Counted bytes at tally
+pub one-counted : {bytes : List ℕ} {at : ℕ} {tally : Tally} {found : Found} → at < length bytes → at + 1 ≤ found .end → found ≡ itemOf bytes at → Counted bytes at tally
     → Counted bytes (found .end) (withFound tally found)
 unfolding replayFrom
 one-counted {bytes} {at} {tally} {found} h k e c = go (c .more) (c .enough) (c .is)

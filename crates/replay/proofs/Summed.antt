@@ -1,6 +1,7 @@
 -- The sums over the first bytes of a page.
 use Prim.Native.Nat.{ℕ, _+_, _≤_, _<_}
 use native.Mathlib.Numerals.{add-one}
+use native.Mathlib.Omega.{arith}
 use mathlib.Core.List.{List, [], _∷_, _++_}
 use mathlib.Core.Path.{_≡_, refl}
 use borrow.Author.Tests.{le-ltb}
@@ -21,3 +22,7 @@ one-more l i s h = rw (add-one, take-suc l i 0 h) (last-byte (take i l) (getD l 
 pub page-sums : (page start : List ℕ) (len : ℕ) (s : Sums) → len ≤ 65537 → take len page ≡ start → sumsPageOf page len s ≡ sumsOf start s
 unfolding sumsPageOf
 page-sums page start len s h e = rw (le-ltb 65537 len h, e)
+
+-- where a loop over i to n ends
+pub end : {i n : ℕ} → i ≤ n → n ≤ i → n ≡ i
+end a b = omega arith

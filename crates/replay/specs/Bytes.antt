@@ -1,22 +1,12 @@
--- The pages before a call, the run call on their starts, and the comparison of a line.
+-- The pages before a call, and the comparison of a line.
 use Prim.Native.Nat.{ℕ, zero, suc, _+_, _*_}
 use mathlib.Core.Bool.{Bool, true, false, cond}
 use mathlib.Core.List.{List, [], _∷_}
-use lib.ListN.{length, take, drop, set}
-use lib.Seq.{sets}
+use lib.ListN.{length, take, set}
 use lib.Dec.{eqb, leb}
-use Rattle.arithmetic.specs.declared.record.Lh5801.{Lh5801}
-use mathlib.Core.Path.{_≡_}
-use Rattle.run.specs.declared.Answer.{Answer}
-use Rattle.run.specs.declared.Settings.{Settings}
-use Rattle.run.specs.Run.{Outcome, callOf}
-use Rattle.run.specs.Report.{part}
+use Rattle.run.specs.Parts.{part, atStart}
 use Rattle.replay.specs.declared.Rule.{Rule}
 use Rattle.replay.specs.Numbers.{nextByteOf}
-
--- bytes stored from the start of a page on; those past its end are dropped
-abbrev pub atStart : List ℕ → List ℕ → List ℕ
-atStart page bytes = sets page 0 bytes
 
 -- so many bytes by the fill rule, from offset i on, of which this is the first
 unfoldable pub ruleBytes : ℕ → ℕ → ℕ → ℕ → List ℕ
@@ -47,18 +37,6 @@ patchOf page which (low ∷ high ∷ number ∷ []) = page
 -- a page before the call: the fill rule, then the file's bytes, then the bytes that are set
 unfoldable pub prepareOf : List ℕ → ℕ → ℕ → Rule → List ℕ → ℕ → ℕ → List ℕ → List ℕ
 prepareOf page which len rule file at count patches = patchOf (copyPageOf file at (fillOf page len (rule .first) (rule .step)) count) which patches
-
--- the run call on the starts of two pages
-abbrev pub runPartsOf : Settings → Lh5801 → List ℕ → ℕ → List ℕ → ℕ → Outcome
-runPartsOf settings cpu page0 len0 page1 len1 = callOf settings cpu (record { page0 = take len0 page0; page1 = take len1 page1 })
-
--- what the run call on the starts of two pages tells and leaves: after the starts the pages are as they were
-pub record RunParts (settings : Settings) (cpu : Lh5801) (page0 : List ℕ) (len0 : ℕ) (page1 : List ℕ) (len1 : ℕ) (r : Answer) (after0 after1 : List ℕ) : Type 0 where
-  pub told : r ≡ runPartsOf settings cpu page0 len0 page1 len1 .told
-  pub page0-is : take len0 after0 ≡ runPartsOf settings cpu page0 len0 page1 len1 .pages .page0
-  pub rest0-kept : drop len0 after0 ≡ drop len0 page0
-  pub page1-is : take len1 after1 ≡ runPartsOf settings cpu page0 len0 page1 len1 .pages .page1
-  pub rest1-kept : drop len1 after1 ≡ drop len1 page1
 
 -- the same bytes, and as many
 unfoldable pub sameBytes : List ℕ → List ℕ → Bool

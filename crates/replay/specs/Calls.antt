@@ -1,21 +1,23 @@
--- One call of the list, an entry of the list, and the whole list.
-use Prim.Native.Nat.{ℕ, zero, suc, _+_, _-_}
+-- One call of the list, an item of the list, and the whole list.
+use Prim.Native.Nat.{ℕ, zero, suc, _+_, _-_, _≤_}
 use mathlib.Core.Bool.{cond}
 use mathlib.Core.List.{List}
+use mathlib.Core.Path.{_≡_}
 use lib.ListN.{length, getD, replicate}
 use lib.Dec.{ltb}
 use Rattle.run.specs.declared.campaign_file.Parsed.{Parsed}
 use Rattle.run.specs.declared.campaign_file.Refusal.{Refusal}
 use Rattle.run.specs.CampaignFile.{Field, read, refused, campaignOf, refusalNumber, refusalOffset}
 use Rattle.run.specs.Line.{refusalLineOf}
-use Rattle.run.specs.Run.{Outcome}
-use Rattle.run.specs.Report.{part, settingsIn, toldLine}
+use Rattle.run.specs.Run.{CallResult}
+use Rattle.run.specs.Report.{settingsIn, answerLine}
+use Rattle.run.specs.Parts.{part, runPartsOf}
 use Rattle.replay.specs.declared.Sums.{Sums}
 use Rattle.replay.specs.declared.Rule.{Rule}
 use Rattle.replay.specs.declared.Found.{Found}
 use Rattle.replay.specs.declared.Tally.{Tally}
 use Rattle.replay.specs.Numbers.{twoOf, fourOf, eightOf, endOf, noSums, sumsOf, sumsDifferOf, eitherOf}
-use Rattle.replay.specs.Bytes.{prepareOf, runPartsOf, bytesDiffer}
+use Rattle.replay.specs.Bytes.{prepareOf, bytesDiffer}
 
 -- a file that was turned down: 0 where its line is the wanted one, else 1
 unfoldable pub refusalDiffersOf : Refusal → List ℕ → ℕ
@@ -26,18 +28,18 @@ abbrev pub blank : List ℕ
 blank = replicate 65537 0
 
 -- the call of a file that was read, on pages of these lengths
-unfoldable pub outcomeOf : List ℕ → Parsed → ℕ → ℕ → Rule → List ℕ → Outcome
-outcomeOf file c len0 len1 rule sets =
+unfoldable pub callResultOf : List ℕ → Parsed → ℕ → ℕ → Rule → List ℕ → CallResult
+callResultOf file c len0 len1 rule sets =
     runPartsOf (settingsIn (c .asked)) (c .cpu) (prepareOf blank 0 len0 rule file (c .«page0_at») (c .«page0_len») sets) len0
     (prepareOf blank 1 len1 rule file (c .«page1_at») (c .«page1_len») sets) len1
 
 -- 0 where a call tells the wanted line and leaves pages of the wanted sums, else 1
-abbrev pub outcomeDiffers : Outcome → List ℕ → Sums → ℕ
-outcomeDiffers o want wantSums =
-    eitherOf (bytesDiffer (toldLine (o .told)) want) (sumsDifferOf (sumsOf (o .pages .page1) (sumsOf (o .pages .page0) noSums)) wantSums)
+abbrev pub resultDiffers : CallResult → List ℕ → Sums → ℕ
+resultDiffers o want wantSums =
+    eitherOf (bytesDiffer (answerLine (o .answer)) want) (sumsDifferOf (sumsOf (o .pages .page1) (sumsOf (o .pages .page0) noSums)) wantSums)
 
 unfoldable pub callDiffersOf : List ℕ → Parsed → ℕ → ℕ → Rule → List ℕ → List ℕ → Sums → ℕ
-callDiffersOf file c len0 len1 rule sets want wantSums = outcomeDiffers (outcomeOf file c len0 len1 rule sets) want wantSums
+callDiffersOf file c len0 len1 rule sets want wantSums = resultDiffers (callResultOf file c len0 len1 rule sets) want wantSums
 
 -- a file that is read is one call; a file that is turned down has a line only
 abbrev pub fileDiffers : Field Parsed → List ℕ → ℕ → ℕ → Rule → List ℕ → List ℕ → Sums → ℕ
@@ -53,7 +55,7 @@ differsOf file len0 len1 rule sets want wantSums =
 abbrev pub between : List ℕ → ℕ → ℕ → List ℕ
 between bytes from to = part bytes from (to - from)
 
--- the entry that begins here and ends there: its campaign file lies from here + 14 to middle, its line from there to last, the bytes that are set
+-- the item that begins here and ends there: its campaign file lies from here + 14 to middle, its line from there to last, the bytes that are set
 -- from there to the sums, which are its last 16 bytes. One whose parts reach into the sums differs
 abbrev pub partsDiffer : List ℕ → ℕ → ℕ → ℕ → ℕ → ℕ
 partsDiffer bytes at middle last to =
@@ -62,31 +64,37 @@ partsDiffer bytes at middle last to =
     (record { first = getD bytes (at + 11) 0; step = getD bytes (at + 12) 0 }) (between bytes last to) (between bytes middle last)
     (record { first = eightOf bytes to; second = eightOf bytes (to + 8) }))
 
-unfoldable pub entryDiffersOf : List ℕ → ℕ → ℕ → ℕ
-entryDiffersOf bytes at end =
+unfoldable pub itemDiffersOf : List ℕ → ℕ → ℕ → ℕ
+itemDiffersOf bytes at end =
     partsDiffer bytes at (at + 14 + twoOf bytes at) (at + 14 + twoOf bytes at + getD bytes (at + 10) 0) (end - 16)
 
--- an entry that is cut off counts as a call that differs, and ends the list
+-- an item that is cut off counts as a call that differs, and ends the list
 abbrev pub cutOff : List ℕ → Found
 cutOff bytes = record { end = length bytes; differs = 1 }
 
--- the entry that begins here
-unfoldable pub entryOf : List ℕ → ℕ → Found
-entryOf bytes at =
+-- the item that begins here
+unfoldable pub itemOf : List ℕ → ℕ → Found
+itemOf bytes at =
     cond (ltb (length bytes - at) 14) (cutOff bytes)
     (cond (ltb (length bytes) (endOf bytes at)) (cutOff bytes)
-    (record { end = endOf bytes at; differs = entryDiffersOf bytes at (endOf bytes at) }))
+    (record { end = endOf bytes at; differs = itemDiffersOf bytes at (endOf bytes at) }))
 
 -- one call more, and one more that differs where it does
 abbrev pub withFound : Tally → Found → Tally
 withFound tally found = record { calls = tally .calls + 1; differ = tally .differ + found .differs }
 
--- the entries from a place on, of which there are at most so many as the first argument says, counted after those before them
+-- the items from a place on, of which there are at most so many as the first argument says, counted after those before them
 unfoldable pub replayFrom : ℕ → List ℕ → ℕ → Tally → Tally
 replayFrom zero bytes at tally = tally
 replayFrom (suc more) bytes at tally =
-    cond (ltb at (length bytes)) (replayFrom more bytes (entryOf bytes at .end) (withFound tally (entryOf bytes at))) tally
+    cond (ltb at (length bytes)) (replayFrom more bytes (itemOf bytes at .end) (withFound tally (itemOf bytes at))) tally
 
--- the whole list. An entry has at least one byte, so there are at most as many entries as bytes
+-- the whole list. An item has at least one byte, so there are at most as many items as bytes
 unfoldable pub replayOf : List ℕ → Tally
 replayOf bytes = replayFrom (length bytes) bytes 0 (record { calls = 0; differ = 0 })
+
+-- what is counted of a file: the tally of some bytes, at most 65,536. No bytes where the file cannot be opened
+pub record Replayed (r : Tally) : Type 0 where
+  pub bytes : List ℕ
+  pub few : length bytes ≤ 65536
+  pub is : r ≡ replayOf bytes

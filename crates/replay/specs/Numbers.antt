@@ -19,7 +19,7 @@ fourOf bytes at = twoOf bytes at + 65536 * twoOf bytes (at + 2)
 unfoldable pub eightOf : List ℕ → ℕ → ℕ
 eightOf bytes at = fourOf bytes at + 4294967296 * fourOf bytes (at + 4)
 
--- the place after the entry that begins here: 30 bytes of fixed fields, the campaign file, the line, and four bytes for each byte that is set
+-- the place after the item that begins here: 30 bytes of fixed fields, the campaign file, the line, and four bytes for each byte that is set
 unfoldable pub endOf : List ℕ → ℕ → ℕ
 endOf bytes at = at + 30 + twoOf bytes at + getD bytes (at + 10) 0 + 4 * getD bytes (at + 13) 0
 

@@ -1,22 +1,21 @@
 // Replays a list of the original's answers, and prints how many calls there were and how many differ. No Rust is needed for it.
 //
-// The list, data/answers0.bin and on, cut between entries, was made so: `oracle list 1500 --seed 7 --out list.txt` wrote 2,423 answers of the original (the directed calls,
-// then 1,500 random ones; stops 1 to 4 and 7 are the oracle's own). A script turned each call into an entry, the answer into document 01's
+// The list, data/answers0.bin and on, cut between items, was made so: `oracle list 1500 --seed 7 --out list.txt` wrote 2,423 answers of the original (the directed calls,
+// then 1,500 random ones; stops 1 to 4 and 7 are the oracle's own). A script turned each call into an item, the answer into document 01's
 // line, and the writes, stored into the given pages, into the two sums below. Then come 121 files that are turned down with 8, 9 or 10: document
 // 01's example cut at every place, with bytes left over, with each field too great or too long, and with random bytes changed; their lines are
 // those that `oracle run FILE` printed, which is the oracle's own reading, for the original has none.
-// An entry, its numbers lowest byte first: the campaign file's length (2 bytes), the two pages' lengths (4 each), the line's length (1), the fill
+// An item, its numbers lowest byte first: the campaign file's length (2 bytes), the two pages' lengths (4 each), the line's length (1), the fill
 // rule's first byte and step (1 each), how many bytes are set after it (1); the campaign file; the line; for each byte that is set its offset (2),
-// page (1) and value (1); the two sums over both pages after the call (8 each). The pages lent are as long as the entry says: the fill rule, then
+// page (1) and value (1); the two sums over both pages after the call (8 each). The pages lent are as long as the item says: the fill rule, then
 // the campaign file's bytes at their start, then the bytes that are set. So pages can be longer than a campaign file holds.
 ghost use mathlib.Core.Path.{_≡_};
 ghost use Prim.Native.Nat.{_+_, _≤_};
 ghost use lib.ListN.{length, take};
-ghost use Rattle.run.specs.Line.{Printed};
-ghost use Rattle.run.specs.Report.{part, toldLine};
+ghost use Rattle.run.specs.Parts.{RunParts};
 ghost use Rattle.replay.specs.Numbers.{twoOf, fourOf, eightOf, endOf, sumsOf, sumsPageOf, sumsDifferOf, eitherOf, bothOf, nextByteOf};
-ghost use Rattle.replay.specs.Bytes.{atStart, fillOf, copyPageOf, setOf, patchOf, prepareOf, RunParts, lineDiffersOf};
-ghost use Rattle.replay.specs.Calls.{refusalDiffersOf, callDiffersOf, differsOf, entryDiffersOf, entryOf, replayOf};
+ghost use Rattle.replay.specs.Bytes.{fillOf, copyPageOf, setOf, patchOf, prepareOf, lineDiffersOf};
+ghost use Rattle.replay.specs.Calls.{refusalDiffersOf, callDiffersOf, differsOf, itemDiffersOf, itemOf, replayOf, Replayed};
 use arithmetic::record::Lh5801;
 use libc::STDOUT_FILENO;
 use run::Answer;
@@ -26,6 +25,8 @@ use run::campaign_file::Campaign;
 use run::campaign_file::Parsed;
 use run::campaign_file::Refusal;
 use run::line;
+use run::parts;
+use run::report;
 
 // Two running sums over bytes: each byte is added to the first, and then the first to the second, modulo 2^64.
 struct Sums {
@@ -107,18 +108,6 @@ fn sums_page(page: &[u8; 65537], len: usize, before: Sums) -> Sums
     sums_over(page, len, before)
 }
 
-// Bytes from a place on, to the start of a page.
-fn copy_part(bytes: &[u8], at: usize, page: &mut [u8], len: usize)
-    requires { ⌜ (at + len ≤ length (now bytes)) × (len ≤ length (now page)) ⌝ }
-    ensures { λ _. ⌜ now (page .exit) ≡ atStart (now (page .entry)) (part (now (bytes .entry)) at len) ⌝ }
-{
-    let mut i = 0;
-    while i < len {
-        page[i] = bytes[at + i];
-        i += 1;
-    }
-}
-
 // A page's bytes, from a place of the file on, to the start of a page; nothing where they are not all there or do not fit.
 fn copy_page(bytes: &[u8], at: usize, page: &mut [u8], len: usize)
     ensures { λ _. ⌜ now (page .exit) ≡ copyPageOf (now (bytes .entry)) at (now (page .entry)) len ⌝ }
@@ -133,7 +122,7 @@ fn copy_page(bytes: &[u8], at: usize, page: &mut [u8], len: usize)
     if page.len() < len {
         return;
     }
-    copy_part(bytes, at, page, len);
+    parts::copy_part(bytes, at, page, len);
 }
 
 // The fill rule's byte at offset i from the one before it: a step on, and four steps on where a block of 256 begins, modulo 256.
@@ -201,21 +190,6 @@ fn prepare(
     patch(page, which, sets);
 }
 
-// The run call on the starts of two buffers.
-fn run_parts(
-    cpu: Lh5801,
-    page0: &mut [u8],
-    len0: usize,
-    page1: &mut [u8],
-    len1: usize,
-    settings: Settings,
-) -> Answer
-    requires { ⌜ (len0 ≤ length (now page0)) × (len1 ≤ length (now page1)) ⌝ }
-    ensures { λ r. ⌜ RunParts settings cpu (now (page0 .entry)) len0 (now (page1 .entry)) len1 r (now (page0 .exit)) (now (page1 .exit)) ⌝ }
-{
-    run::run(cpu, &mut page0[..len0], &mut page1[..len1], settings)
-}
-
 // The run call on the starts of two arrays.
 fn run_pages(
     cpu: Lh5801,
@@ -228,16 +202,7 @@ fn run_pages(
     requires { ⌜ (len0 ≤ 65537) × (len1 ≤ 65537) ⌝ }
     ensures { λ r. ⌜ RunParts settings cpu (now (page0 .entry)) len0 (now (page1 .entry)) len1 r (now (page0 .exit)) (now (page1 .exit)) ⌝ }
 {
-    run_parts(cpu, page0, len0, page1, len1, settings)
-}
-
-// The line of a call.
-fn told_line(out: &mut [u8; 200], a: Answer) -> usize
-    ensures { λ r. ⌜ Printed (now (out .entry)) (toldLine a) (now (out .exit)) r ⌝ }
-{
-    let end = a.end;
-    let cpu = a.cpu;
-    line::line(out, run::number(end), a.steps, a.states, cpu)
+    parts::run_parts(cpu, page0, len0, page1, len1, settings)
 }
 
 // 0 where the first bytes of a buffer, so many, are those of the wanted line, else 1.
@@ -315,9 +280,9 @@ fn call_differs(
     );
     let cpu = c.cpu;
     let asked = c.asked;
-    let settings = run::report::settings_of(asked);
+    let settings = report::settings_of(asked);
     let a = run_pages(cpu, &mut page0, len0, &mut page1, len1, settings);
-    let n = told_line(&mut out, a);
+    let n = report::answer_line(&mut out, a);
     let none = Sums {
         first: 0,
         second: 0,
@@ -370,7 +335,7 @@ fn differs(
     }
 }
 
-// The place after the entry that begins here.
+// The place after the item that begins here.
 fn end_of(bytes: &[u8], at: usize) -> usize
     requires { ⌜ at + 14 ≤ length (now bytes) ⌝ }
     ensures { λ r. ⌜ (r ≡ endOf (now (bytes .entry)) at) × (at + 30 ≤ r) ⌝ }
@@ -382,10 +347,10 @@ fn end_of(bytes: &[u8], at: usize) -> usize
         + 4 * wide(bytes[at + 13]) as usize
 }
 
-// The entry that begins here and ends there.
-fn entry_differs(bytes: &[u8], at: usize, end: usize) -> u64
+// The item that begins here and ends there.
+fn item_differs(bytes: &[u8], at: usize, end: usize) -> u64
     requires { ⌜ (at + 30 ≤ end) × (end ≤ length (now bytes)) ⌝ }
-    ensures { λ r. ⌜ (r ≡ entryDiffersOf (now (bytes .entry)) at end) × (r ≤ 1) ⌝ }
+    ensures { λ r. ⌜ (r ≡ itemDiffersOf (now (bytes .entry)) at end) × (r ≤ 1) ⌝ }
 {
     let len0 = four(bytes, at + 2);
     let len1 = four(bytes, at + 6);
@@ -415,16 +380,16 @@ fn entry_differs(bytes: &[u8], at: usize, end: usize) -> u64
     )
 }
 
-// What is found at a place of the list: where the next entry begins, and 1 where the call differs.
+// What is found at a place of the list: where the next item begins, and 1 where the call differs.
 struct Found {
     end: usize,
     differs: u64,
 }
 
-// The entry that begins here. One that is cut off counts as a call that differs, and ends the list.
-fn entry(bytes: &[u8], at: usize) -> Found
+// The item that begins here. One that is cut off counts as a call that differs, and ends the list.
+fn item(bytes: &[u8], at: usize) -> Found
     requires { ⌜ at + 1 ≤ length (now bytes) ⌝ }
-    ensures { λ r. ⌜ (r ≡ entryOf (now (bytes .entry)) at) × (at + 1 ≤ r .end) × (r .end ≤ length (now (bytes .entry))) × (r .differs ≤ 1) ⌝ }
+    ensures { λ r. ⌜ (r ≡ itemOf (now (bytes .entry)) at) × (at + 1 ≤ r .end) × (r .end ≤ length (now (bytes .entry))) × (r .differs ≤ 1) ⌝ }
 {
     let all = bytes.len();
     if all - at < 14 {
@@ -440,7 +405,7 @@ fn entry(bytes: &[u8], at: usize) -> Found
             differs: 1,
         };
     }
-    let found = entry_differs(bytes, at, end);
+    let found = item_differs(bytes, at, end);
     Found {
         end: end,
         differs: found,
@@ -455,7 +420,7 @@ fn replay(bytes: &[u8]) -> Tally
     let mut calls: u64 = 0;
     let mut differ: u64 = 0;
     while at < bytes.len() {
-        let found = entry(bytes, at);
+        let found = item(bytes, at);
         at = found.end;
         calls += 1;
         differ += found.differs;
@@ -468,7 +433,7 @@ fn replay(bytes: &[u8]) -> Tally
 
 // The part of the list in an open file.
 fn replay_file(fd: i32) -> Tally
-    ensures { λ r. ⌜ r .differ ≤ r .calls ⌝ }
+    ensures { λ r. ⌜ Replayed r ⌝ }
 {
     let mut bytes = [0u8; 65536];
     let n = io::read_full(fd, &mut bytes);
@@ -477,7 +442,7 @@ fn replay_file(fd: i32) -> Tally
 
 // The part of the list in the file of this name; no call where it cannot be opened.
 fn replay_path(path: &[u8]) -> Tally
-    ensures { λ r. ⌜ r .differ ≤ r .calls ⌝ }
+    ensures { λ r. ⌜ Replayed r ⌝ }
 {
     let fd = os::open_read(path);
     if fd < 0 {

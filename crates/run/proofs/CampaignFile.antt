@@ -2,13 +2,12 @@
 -- it is the written form of contents within their bounds; a file is turned down exactly for the reasons of `Stopped`, where they are.
 -- Assumes nothing.
 pub mod Groups
-pub mod Answers
-pub mod InTurn
 pub mod Number
+pub mod InTurn
 pub mod ReadBack
 pub mod Accepts
 pub mod Refuses
-pub mod Worked
+pub mod Examples
 use Prim.Native.Nat.{ℕ}
 use mathlib.Core.Path.{_≡_, sym, subst}
 use mathlib.Core.Logic.{_↔_}

@@ -11,23 +11,23 @@ use Rattle.pages.specs.Pages.{Pages, SameLength}
 use Rattle.pages.specs.Written.{Written}
 use Rattle.execution.proofs.StepKeeps.{step-small}
 use Rattle.run.specs.declared.Settings.{Settings}
-use Rattle.run.specs.Entry.{Accepted}
-use Rattle.run.specs.Run.{Outcome, noStep, completed, runOf, settings, callsOf}
+use Rattle.run.specs.Acceptance.{Accepted}
+use Rattle.run.specs.Run.{CallResult, noStep, completed, runOf, settings, callsOf}
 use Rattle.run.specs.Demand.{sum, AtLeastOne, AllAccepted, SameAsRun, Demand3}
 use Rattle.run.proofs.Steps.{run-each, run-written, join, run-split, SameButPages, run-agree}
-use Rattle.run.proofs.Entry.{limit-some, limit-most, call-run}
+use Rattle.run.proofs.Acceptance.{limit-some, limit-most, call-run}
 
--- the outcomes xs, one after another, come to the outcome x
-record Adds (x : Outcome) (xs : List Outcome) : Type 0 where
+-- the results xs, one after another, come to the result x
+record Adds (x : CallResult) (xs : List CallResult) : Type 0 where
   some-call : xs ≢ []
-  end : getLast xs some-call .told .end ≡ x .told .end
-  cpu : getLast xs some-call .told .cpu ≡ x .told .cpu
+  end : getLast xs some-call .answer .end ≡ x .answer .end
+  cpu : getLast xs some-call .answer .cpu ≡ x .answer .cpu
   pages : getLast xs some-call .pages ≡ x .pages
-  steps : sum (map (λ (o : Outcome). o .told .steps) xs) ≡ x .told .steps
-  states : sum (map (λ (o : Outcome). o .told .states) xs) ≡ x .told .states
-  wrote : flatten (map (λ (o : Outcome). o .wrote) xs) ≡ x .wrote
+  steps : sum (map (λ (o : CallResult). o .answer .steps) xs) ≡ x .answer .steps
+  states : sum (map (λ (o : CallResult). o .answer .states) xs) ≡ x .answer .states
+  wrote : flatten (map (λ (o : CallResult). o .wrote) xs) ≡ x .wrote
 
-adds-one : (x : Outcome) → Adds x (x ∷ [])
+adds-one : (x : CallResult) → Adds x (x ∷ [])
 unfolding sum flatten
 adds-one x =
     record {
@@ -40,7 +40,7 @@ adds-one x =
       wrote = append-nil _;
     }
 
-adds-more : (x : Outcome) {y : Outcome} {ys : List Outcome} → Adds y ys → Adds (join x y) (x ∷ ys)
+adds-more : (x : CallResult) {y : CallResult} {ys : List CallResult} → Adds y ys → Adds (join x y) (x ∷ ys)
 unfolding sum flatten join
 adds-more x {y} {ys} h =
     record {
@@ -59,26 +59,26 @@ unfolding callsOf
 adds-last l inputs m p h = rw (call-run (settings inputs l) m p h, add-zero) (adds-one _)
 
 adds-first : (l n : ℕ) (ls : List ℕ) (inputs : Inputs) (m : Lh5801) (p : Pages) → Accepted (settings inputs l) m p → 1 ≤ n
-    → Adds (runOf n inputs (runOf l inputs m p .told .cpu) (runOf l inputs m p .pages))
-    (callsOf ls inputs (runOf l inputs m p .told .cpu) (runOf l inputs m p .pages))
+    → Adds (runOf n inputs (runOf l inputs m p .answer .cpu) (runOf l inputs m p .pages))
+    (callsOf ls inputs (runOf l inputs m p .answer .cpu) (runOf l inputs m p .pages))
     → Adds (runOf (l + n) inputs m p) (callsOf (l ∷ ls) inputs m p)
 unfolding callsOf
 adds-first l n ls inputs m p h i rest = rw (call-run (settings inputs l) m p h, ← run-split l n inputs m p i) (adds-more _ rest)
 
--- the calls, from the pages q, come to an outcome that differs from the run's at most in its pages
-same : {p q : Pages} {run x : Outcome} {xs : List Outcome} → Adds x xs → SameButPages run x
+-- the calls, from the pages q, come to a result that differs from the run's at most in its pages
+same : {p q : Pages} {run x : CallResult} {xs : List CallResult} → Adds x xs → SameButPages run x
     → Written p (run .wrote) (run .pages)
     → Written q (x .wrote) (x .pages)
     → SameAsRun p q run xs
 same h t v w =
     record {
       some-call = h .some-call;
-      end = h .end ∙ ap (λ a. a .end) (t .told);
-      number = rw (h .end, t .told);
-      byte = rw (h .end, t .told);
-      cpu = h .cpu ∙ ap (λ a. a .cpu) (t .told);
-      steps = h .steps ∙ ap (λ a. a .steps) (t .told);
-      states = h .states ∙ ap (λ a. a .states) (t .told);
+      end = h .end ∙ ap (λ a. a .end) (t .answer);
+      number = rw (h .end, t .answer);
+      byte = rw (h .end, t .answer);
+      cpu = h .cpu ∙ ap (λ a. a .cpu) (t .answer);
+      steps = h .steps ∙ ap (λ a. a .steps) (t .answer);
+      states = h .states ∙ ap (λ a. a .states) (t .answer);
       wrote = h .wrote ∙ t .wrote;
       run-pages = v;
       list-pages = rw (h .wrote, h .pages) w;
@@ -92,12 +92,11 @@ first-accepted l n inputs h i =
 long-accepted : {s : Settings} {m : Lh5801} {p q : Pages} → Accepted s m p → SameLength p q → Accepted s m q
 long-accepted h l = record { page0 = rw (← (l .page0)) (h .page0); page1 = rw (← (l .page1)) (h .page1); timer = h .timer; limit = h .limit }
 
--- so long as a completed step keeps TM at most 511
--- so do the steps of a call
-pub run-small : (n : ℕ) (inputs : Inputs) (m : Lh5801) (p : Pages) → m .tm < 512 → runOf n inputs m p .told .cpu .tm < 512
+-- the steps of a call keep TM at most 511
+pub run-small : (n : ℕ) (inputs : Inputs) (m : Lh5801) (p : Pages) → m .tm < 512 → runOf n inputs m p .answer .cpu .tm < 512
 unfolding noStep completed
 run-small n inputs =
-    run-each inputs (λ n m p o. m .tm < 512 → o .told .cpu .tm < 512)
+    run-each inputs (λ n m p o. m .tm < 512 → o .answer .cpu .tm < 512)
     (λ m p h. h)
     (λ n m p s e h. h)
     (λ n m p k t kind e ih h. ih (step-small m inputs h p k t kind e))
@@ -105,7 +104,7 @@ run-small n inputs =
 
 -- after the first call of a list, the others can be accepted
 rest-accepted : (l n : ℕ) (inputs : Inputs) {m : Lh5801} {p : Pages} → Accepted (settings inputs (l + n)) m p → 1 ≤ n
-    → Accepted (settings inputs n) (runOf l inputs m p .told .cpu) (runOf l inputs m p .pages)
+    → Accepted (settings inputs n) (runOf l inputs m p .answer .cpu) (runOf l inputs m p .pages)
 rest-accepted l n inputs {m} {p} h i =
     record {
       page0 = rw (← (run-written l inputs m p .long .page0)) (h .page0);

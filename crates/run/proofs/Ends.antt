@@ -1,33 +1,32 @@
 -- How the steps of a call end: what they reach, and whether the next step stops.
 use mathlib.Core.Path.{_≡_, refl, ap}
-use mathlib.Core.List.{List, [], _∷_, _++_, append-nil, append-assoc}
+use mathlib.Core.List.{List, _++_, append-nil, append-assoc}
 use Prim.Native.Nat.{ℕ, zero, suc, _+_, _*_, _%_, _^_, _<_, _≤_}
 use native.Mathlib.Nat.{zero-add, add-zero, suc-add, add-assoc, not-suc-le-zero, le-of-suc-le-suc}
 use native.Mathlib.Omega.{arith}
 use Rattle.arithmetic.specs.declared.record.Lh5801.{Lh5801}
 use Rattle.execution.specs.declared.Inputs.{Inputs}
 use Rattle.pages.specs.Pages.{Pages}
-use Rattle.pages.specs.Prog.{Access, readOf, writeOf}
 use Rattle.pages.specs.Written.{Write, writes}
 use Rattle.execution.specs.declared.Stop.{Stop}
 use Rattle.execution.specs.Step.{Kind, did, stopped, stepOf}
 use Rattle.execution.proofs.StepKeeps.{step-small, step-ticks}
 use Rattle.execution.proofs.StepStates.{step-states}
 use Rattle.run.specs.declared.End.the-variants.{AllSteps, Step}
-use Rattle.run.specs.Run.{Outcome, outcome, noStep, completed, oneStep, runOf, accessesOf}
+use Rattle.run.specs.Run.{CallResult, callResult, noStep, completed, oneStep, runOf}
 use Rattle.run.specs.Reaches.{Reaches, start, next}
-use Rattle.run.proofs.Steps.{run-did, run-stop, accesses-did, accesses-stop, run-each}
+use Rattle.run.proofs.Steps.{run-did, run-stop, run-each}
 
 -- all n steps are completed, or fewer are and the next one stops
-pub data Ended (inputs : Inputs) (n : ℕ) (o : Outcome) : Type 0 where
-  all : o .told .end ≡ AllSteps → o .told .steps ≡ n → Ended inputs n o
+pub data Ended (inputs : Inputs) (n : ℕ) (o : CallResult) : Type 0 where
+  all : o .answer .end ≡ AllSteps → o .answer .steps ≡ n → Ended inputs n o
   early : (s : Stop)
-      → o .told .end ≡ Step s
-      → o .told .steps < n
-      → oneStep inputs (o .told .cpu) (o .pages) .answer ≡ stopped s
+      → o .answer .end ≡ Step s
+      → o .answer .steps < n
+      → oneStep inputs (o .answer .cpu) (o .pages) .answer ≡ stopped s
       → Ended inputs n o
 
-ended-more : {inputs : Inputs} {n : ℕ} {o : Outcome} (t : ℕ) (ws : List Write) → Ended inputs n o → Ended inputs (suc n) (completed t ws o)
+ended-more : {inputs : Inputs} {n : ℕ} {o : CallResult} (t : ℕ) (ws : List Write) → Ended inputs n o → Ended inputs (suc n) (completed t ws o)
 unfolding completed
 ended-more t ws (all e h) = all e (ap suc h)
 ended-more t ws (early s e h x) = early s e (omega arith) x
@@ -43,11 +42,11 @@ run-ended n inputs =
 
 -- what a call tells and leaves is what its completed steps lead to
 pub run-reaches : (n : ℕ) (inputs : Inputs) (m : Lh5801) (p : Pages)
-    → Reaches inputs (runOf n inputs m p .told .steps) m p (runOf n inputs m p .told .cpu) (runOf n inputs m p .pages)
-    (runOf n inputs m p .told .states) (runOf n inputs m p .wrote)
+    → Reaches inputs (runOf n inputs m p .answer .steps) m p (runOf n inputs m p .answer .cpu) (runOf n inputs m p .pages)
+    (runOf n inputs m p .answer .states) (runOf n inputs m p .wrote)
 unfolding noStep completed
 run-reaches n inputs =
-    run-each inputs (λ n m p o. Reaches inputs (o .told .steps) m p (o .told .cpu) (o .pages) (o .told .states) (o .wrote))
+    run-each inputs (λ n m p o. Reaches inputs (o .answer .steps) m p (o .answer .cpu) (o .pages) (o .answer .states) (o .wrote))
     (λ m p. start)
     (λ n m p s e. start)
     (λ n m p k t kind e h. next e h)
@@ -56,7 +55,7 @@ run-reaches n inputs =
 -- and the other way round
 pub reaches-run : {inputs : Inputs} {j : ℕ} {m k : Lh5801} {p q : Pages} {t : ℕ} {ws : List Write}
     → Reaches inputs j m p k q t ws
-    → runOf j inputs m p ≡ outcome AllSteps j t k q ws
+    → runOf j inputs m p ≡ callResult AllSteps j t k q ws
 unfolding noStep completed
 reaches-run start = unfold runOf in refl
 reaches-run {inputs} {m} {p} (next {j = j} e r) = rw (run-did inputs m p j e, reaches-run r)
@@ -65,7 +64,7 @@ pub reaches-stop : {inputs : Inputs} {j : ℕ} {m k : Lh5801} {p q : Pages} {t :
     → Reaches inputs j m p k q t ws
     → j < n
     → oneStep inputs k q .answer ≡ stopped s
-    → runOf n inputs m p ≡ outcome (Step s) j t k q ws
+    → runOf n inputs m p ≡ callResult (Step s) j t k q ws
 unfolding noStep completed
 reaches-stop zero r h x = absurd (not-suc-le-zero h)
 reaches-stop {inputs} {m} {p} (suc n) start h x = run-stop inputs m p n x
@@ -120,30 +119,3 @@ module _ {inputs : Inputs} where
   pub reaches-most : {j : ℕ} {m k : Lh5801} {p q : Pages} {t : ℕ} {ws : List Write} → Reaches inputs j m p k q t ws → t ≤ 23 * j
   reaches-most start = omega arith
   reaches-most {m = m} {p = p} (next {n = n} {s = s} {kind = kind} e r) = omega (arith, reaches-most r, step-states m inputs p n s kind e)
-
--- the writes among a call's accesses are those of its completed steps, and after them those of the step that stops
-writes-append : (x y : List Access) → writes (x ++ y) ≡ writes x ++ writes y
-unfolding writes
-writes-append [] y = refl
-writes-append (readOf a b ∷ x) y = writes-append x y
-writes-append (writeOf a v ∷ x) y = ap (λ l. record { place = a; byte = v } ∷ l) (writes-append x y)
-
-pub run-writes : (n : ℕ) (inputs : Inputs) (m : Lh5801) (p : Pages)
-    → ((runOf n inputs m p .told .end ≡ AllSteps) → writes (accessesOf n inputs m p) ≡ runOf n inputs m p .wrote)
-    × ((s : Stop) → runOf n inputs m p .told .end ≡ Step s
-    → writes (accessesOf n inputs m p)
-    ≡ runOf n inputs m p .wrote ++ writes (oneStep inputs (runOf n inputs m p .told .cpu) (runOf n inputs m p .pages) .accesses))
-unfolding noStep completed
-run-writes n inputs =
-    run-each inputs
-    (λ n m p o.
-    (o .told .end ≡ AllSteps → writes (accessesOf n inputs m p) ≡ o .wrote)
-    × ((s : Stop) → o .told .end ≡ Step s
-    → writes (accessesOf n inputs m p) ≡ o .wrote ++ writes (oneStep inputs (o .told .cpu) (o .pages) .accesses)))
-    (λ m p. (λ e. unfold writes accessesOf in refl, λ s e. absurd (let z : _≡_ {A = ℕ} 0 1 = cc in omega arith)))
-    (λ n m p s x. (λ e. absurd (let z : _≡_ {A = ℕ} 0 1 = cc in omega arith), λ y e. rw (accesses-stop inputs m p n x, append-nil)))
-    (λ n m p k t kind x h. (
-      λ e. rw (accesses-did inputs m p n x, writes-append, h .0 e),
-      λ s e. rw (accesses-did inputs m p n x, writes-append, h .1 s e, append-assoc),
-    ))
-    n

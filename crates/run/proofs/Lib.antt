@@ -1,12 +1,14 @@
 pub mod Steps
-pub mod Entry
+pub mod Acceptance
 pub mod Numbers
 pub mod Ends
 pub mod Calls
 pub mod Demand3
 pub mod Loop
+pub mod RecordNumbers
 pub mod CampaignFile
 pub mod PrintedLine
-pub mod Parts
+pub mod Stored
+pub mod Reading
 pub mod Marked
 pub mod AccessOrders

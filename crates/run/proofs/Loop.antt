@@ -18,7 +18,7 @@ use Rattle.execution.specs.declared.Stop.{Stop}
 use Rattle.execution.specs.declared.Outcome.{Outcome}
 use Rattle.execution.specs.declared.Outcome.the-variants.{Completed, Stopped}
 use Rattle.execution.specs.Step.{Kind, StepEnd, did, stopped, outcomeOf, reachedOf, stepOf}
-use Rattle.execution.specs.Due.{dueOf, Ready}
+use Rattle.execution.specs.Code.Due.{dueOf, Ready}
 use Rattle.execution.proofs.Order.{step-reached}
 use Rattle.execution.proofs.DueTest.{due-on}
 use Rattle.execution.proofs.StopsClean.{stop-no-write}
@@ -26,15 +26,16 @@ use mathlib.Core.Option.{some}
 use Rattle.run.specs.declared.Settings.{Settings}
 use Rattle.run.specs.declared.End.{End}
 use Rattle.run.specs.declared.End.the-variants.{AllSteps, Step}
-use Rattle.run.specs.Entry.{Accepted, entryEnd}
-use Rattle.run.proofs.Entry.{call-run, call-end}
+use Rattle.run.specs.Acceptance.{Accepted, notAccepted}
+use Rattle.run.proofs.Acceptance.{call-run, call-end}
 use Rattle.run.specs.declared.Answer.{Answer}
 use Rattle.run.specs.Run.{noStep, oneStep, runOf, callOf}
 use Rattle.run.specs.Reaches.{Reaches, start}
 use Rattle.run.specs.declared.Ahead.the-variants.{Open, Stops}
 use Rattle.run.specs.declared.Led.{Led}
-use Rattle.run.specs.Leads.{AheadIs, Leads, led, unmovedOf}
-use Rattle.run.specs.Answers.{Answers, answer, statesBetween}
+use Rattle.run.specs.Code.Leads.{AheadIs, Leads, led, unmovedOf}
+use Rattle.run.specs.Answers.{Answers}
+use Rattle.run.specs.Code.States.{answerOf, statesBetween}
 use Rattle.run.proofs.Ends.{reaches-run, reaches-stop, reaches-then, reaches-all, reaches-none, reaches-from, reaches-small, reaches-ticks, reaches-most}
 
 -- after so many completed steps: what they have led to
@@ -68,15 +69,15 @@ at-start inputs limit m p h =
     record { within = omega arith; begun = h; states = 0; wrote = []; reached = start }
 
 -- what a step of the code tells of the definition's
-told-did : (e : StepEnd) {k : Lh5801} (P : Lh5801 → Type 0) → Completed k ≡ outcomeOf e
+did-outcome : (e : StepEnd) {k : Lh5801} (P : Lh5801 → Type 0) → Completed k ≡ outcomeOf e
     → ((s : ℕ) (kind : Kind) (l : Lh5801) → e ≡ did l s kind → P l)
     → P k
-told-did (did l s kind) {k} P h f = let z : l ≡ k = cc in subst P z (f s kind l refl)
-told-did (stopped x) P h f = absurd (let z : _≡_ {A = ℕ} 0 1 = cc in omega arith)
+did-outcome (did l s kind) {k} P h f = let z : l ≡ k = cc in subst P z (f s kind l refl)
+did-outcome (stopped x) P h f = absurd (let z : _≡_ {A = ℕ} 0 1 = cc in omega arith)
 
-told-stop : (e : StepEnd) {s : Stop} → Stopped s ≡ outcomeOf e → e ≡ stopped s
-told-stop (did l t kind) h = absurd (let z : _≡_ {A = ℕ} 0 1 = cc in omega arith)
-told-stop (stopped x) {s} h = let z : x ≡ s = cc in ap stopped z
+stop-outcome : (e : StepEnd) {s : Stop} → Stopped s ≡ outcomeOf e → e ≡ stopped s
+stop-outcome (did l t kind) h = absurd (let z : _≡_ {A = ℕ} 0 1 = cc in omega arith)
+stop-outcome (stopped x) {s} h = let z : x ≡ s = cc in ap stopped z
 
 module _ (m : Lh5801) (inputs : Inputs) {p q : Pages} {r : Outcome} (d : Does (mapped outcomeOf (stepOf m inputs)) p r q) where
   answered : r ≡ outcomeOf (oneStep inputs m p .answer)
@@ -101,7 +102,7 @@ module _ {inputs : Inputs} {limit : ℕ} {first : Lh5801} {from : Pages} {steps 
   pub go-on : {k : Lh5801} {q : Pages} → steps < limit → Does (mapped outcomeOf (stepOf m inputs)) p (Completed k) q
       → Going inputs limit first from (steps + 1) k q
   go-on {q = q} h d =
-      told-did (oneStep inputs m p .answer) (λ k. Going inputs limit first from (steps + 1) k q) (answered m inputs d)
+      did-outcome (oneStep inputs m p .answer) (λ k. Going inputs limit first from (steps + 1) k q) (answered m inputs d)
       (λ s kind k e. subst (Going inputs limit first from (steps + 1) k) (left m inputs d) (after-did s kind k h e))
 
   pub small : m .tm < 512
@@ -112,9 +113,9 @@ module _ {inputs : Inputs} {limit : ℕ} {first : Lh5801} {from : Pages} {steps 
   counted l = omega (arith, reaches-ticks (g .reached) (g .begun), reaches-most (g .reached), g .within)
 
   stop-here : {s : Stop} → steps < limit → limit ≤ 1_000_000 → oneStep inputs m p .answer ≡ stopped s
-      → Answers (runOf limit inputs first from) (answer (Step s) steps (statesBetween (first .ticks) (m .ticks)) m) p
+      → Answers (runOf limit inputs first from) (answerOf (Step s) steps (statesBetween (first .ticks) (m .ticks)) m) p
   stop-here {s = s} h l e =
-      record { told = rw (counted l, reaches-stop limit (g .reached) h e); pages = rw (reaches-stop limit (g .reached) h e) refl }
+      record { answer = rw (counted l, reaches-stop limit (g .reached) h e); pages = rw (reaches-stop limit (g .reached) h e) refl }
 
   -- a stretch of steps, and one whose next step stops
   pub led-on : {r : Led} {q : Pages} → Leads inputs steps limit m p r q → Going inputs limit first from (r .steps) (r .cpu) q
@@ -135,16 +136,16 @@ pub led-stop : {inputs : Inputs} {limit : ℕ} {first : Lh5801} {from : Pages} {
     → limit ≤ 1_000_000
     → Leads inputs steps limit m p r q
     → r .ahead ≡ Stops s
-    → Answers (runOf limit inputs first from) (answer (Step s) (r .steps) (statesBetween (first .ticks) (r .cpu .ticks)) (r .cpu)) q
+    → Answers (runOf limit inputs first from) (answerOf (Step s) (r .steps) (statesBetween (first .ticks) (r .cpu .ticks)) (r .cpu)) q
 led-stop {inputs} {limit} {steps = steps} {q = q} {r = r} {s = s} g l d e =
     let a : AheadIs inputs steps limit (r .steps) (r .cpu) q (Stops s) = subst (AheadIs inputs steps limit (r .steps) (r .cpu) q) e (d .ahead) in
     stop-here (led-on g d) (a .0) l (a .1)
 
 -- a step that stops leaves the pages
-stop-told : (m : Lh5801) (inputs : Inputs) {p q : Pages} {s : Stop} → Does (mapped outcomeOf (stepOf m inputs)) p (Stopped s) q
+stop-step : (m : Lh5801) (inputs : Inputs) {p q : Pages} {s : Stop} → Does (mapped outcomeOf (stepOf m inputs)) p (Stopped s) q
     → (oneStep inputs m p .answer ≡ stopped s) × (q ≡ p)
-stop-told m inputs {p} {s = s} d =
-    let e : oneStep inputs m p .answer ≡ stopped s = told-stop (oneStep inputs m p .answer) (answered m inputs d) in
+stop-step m inputs {p} {s = s} d =
+    let e : oneStep inputs m p .answer ≡ stopped s = stop-outcome (oneStep inputs m p .answer) (answered m inputs d) in
     (e, sym (left m inputs d) ∙ stop-no-write m inputs p s e .1)
 
 -- one step is a stretch
@@ -156,7 +157,7 @@ module _ {inputs : Inputs} {done limit : ℕ} {m : Lh5801} {p q : Pages} (room :
 
   pub one-stops : {s : Stop} → Does (mapped outcomeOf (stepOf m inputs)) p (Stopped s) q → Leads inputs done limit m p (led done m (Stops s)) q
   one-stops d =
-      let t = stop-told m inputs d in
+      let t = stop-step m inputs d in
       rw (t .1) (record { more = 0; steps = omega arith; within = omega arith; states = 0; wrote = []; reached = start; ahead = (room, t .0) })
 
 -- instruction after instruction: where one is due, timer reached first moves to IR1
@@ -189,7 +190,7 @@ module _ {inputs : Inputs} {done limit : ℕ} {m first : Lh5801} {from : Pages} 
     pub some-stop : {s : Stop} {q : Pages} → ¬ (steps ≡ done) → steps < limit → Does (mapped outcomeOf (stepOf k inputs)) p (Stopped s) q
         → Leads inputs done limit m from (led steps k (Stops s)) q
     some-stop n h d =
-        let t = stop-told k inputs d in
+        let t = stop-step k inputs d in
         rw (t .1)
         (record {
           more = more;
@@ -213,17 +214,17 @@ module _ {inputs : Inputs} {done limit : ℕ} {m first : Lh5801} {from : Pages} 
 
 pub at-limit : {inputs : Inputs} {limit : ℕ} {first : Lh5801} {from : Pages} {steps : ℕ} {m : Lh5801} {p : Pages} (g : Going inputs limit first from steps m p)
     → limit ≤ steps → limit ≤ 1_000_000
-    → Answers (runOf limit inputs first from) (answer AllSteps steps (statesBetween (first .ticks) (m .ticks)) m) p
+    → Answers (runOf limit inputs first from) (answerOf AllSteps steps (statesBetween (first .ticks) (m .ticks)) m) p
 at-limit {inputs} {limit} {first} {from} {steps} {m} {p} g h l =
     let e : limit ≡ steps = omega (arith, g .within) in
     let r : runOf limit inputs first from ≡ _ = ap (λ (n : ℕ). runOf n inputs first from) e ∙ reaches-run (g .reached) in
-    record { told = rw (counted g l, r) refl; pages = rw r refl }
+    record { answer = rw (counted g l, r) refl; pages = rw r refl }
 
--- a call that is refused at entry, and one that is accepted
+-- a call that is not accepted, and one that is accepted
 module _ (s : Settings) (m : Lh5801) (p : Pages) where
-  pub refused-answers : {e : End} {r : Answer} → entryEnd s m p ≡ some e → r ≡ answer e 0 0 m → Answers (callOf s m p) r p
+  pub refused-answers : {e : End} {r : Answer} → notAccepted s m p ≡ some e → r ≡ answerOf e 0 0 m → Answers (callOf s m p) r p
   unfolding noStep
-  refused-answers h t = record { told = rw (call-end s m p h) t; pages = rw (call-end s m p h) refl }
+  refused-answers h t = record { answer = rw (call-end s m p h) t; pages = rw (call-end s m p h) refl }
 
   pub accepted-answers : {r : Answer} {q : Pages} → Accepted s m p → Answers (runOf (s .limit) (s .inputs) m p) r q → Answers (callOf s m p) r q
   accepted-answers h a = rw (call-run s m p h) a

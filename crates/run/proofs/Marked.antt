@@ -4,7 +4,7 @@ use mathlib.Core.List.{[], _∷_, map}
 use Rattle.arithmetic.specs.Record.{with-a, with-t, with-u, with-p, with-tm, with-is-timer-reached, with-timer-state, with-ticks}
 use Rattle.arithmetic.specs.Flags.{withFlags}
 use Rattle.arithmetic.specs.Sums.{addOf}
-use Rattle.arithmetic.specs.Decimal.{decimalOf as decimalSumOf, dcaSum, dcsSum, dcaOf, dcsOf}
+use Rattle.arithmetic.specs.Decimal.{decimalSumOf, dcaSum, dcsSum, dcaOf, dcsOf}
 use Rattle.arithmetic.specs.Logic.{ldaOf}
 use Rattle.pages.specs.Pages.{at, inside, stored, setByte, store}
 use Rattle.pages.specs.Prog.{_>>=_, read, write, after, exec}
@@ -14,17 +14,17 @@ use Rattle.pages.specs.Timer.{shiftOf, timerIncOf, addStateOf, passedOf, timerP
 use Rattle.execution.specs.Opcodes.{decoded}
 use Rattle.execution.specs.Places.{locateOf, operandOf}
 use Rattle.execution.specs.Instructions.{aluOf, drrOf, drlOf, branchOf, lopOf, executeOf}
-use Rattle.execution.specs.Step.{fetchOf, obeyOf, instructionOf, reachedOf, poweredOf, stepOf}
-use Rattle.run.specs.Entry.{entryEnd}
-use Rattle.run.specs.Run.{noStep, completed, onward, runOf, enteredOf, callOf}
-use Rattle.run.specs.CampaignFile.{numberOf, registersOf, wordsOf, timingOf, askedOf, bytesOf, pageOf, cpuOf, ended, campaignOf}
-use Rattle.run.specs.CampaignFile.{flagsOf}
+use Rattle.execution.specs.Step.{fetchOf, decodedStepOf, instructionOf, reachedOf, poweredOf, stepOf}
+use Rattle.run.specs.Acceptance.{notAccepted}
+use Rattle.run.specs.Run.{noStep, completed, onward, runOf, callUnless, callOf}
+use Rattle.run.specs.RecordNumbers.{flagsOf, recordOf}
+use Rattle.run.specs.CampaignFile.{numberOf, numbersOf, bytesOf, pageOf, ended, campaignOf}
 use Rattle.run.specs.Line.{decimalOf, hexOf, lineOf}
-use Rattle.run.specs.Marked.{shiftsOf, toldOf, MarkedCase, markedCases}
+use Rattle.run.specs.Marked.{shiftsOf, replyOf, MarkedCase, markedCases}
 use Rattle.run.specs.Report.{reportOf}
 
-pub marked-cases-hold : map (λ (c : MarkedCase). toldOf (c .asked)) markedCases ≡ map (λ (c : MarkedCase). c .expected) markedCases
-unfolding toldOf markedCases shiftsOf reportOf with-a with-t with-u with-p with-tm with-is-timer-reached with-timer-state with-ticks withFlags addOf decimalSumOf dcaSum dcsSum dcaOf dcsOf ldaOf at inside stored setByte store _>>=_ read write after exec writes readopOf shiftOf timerIncOf addStateOf passedOf timerPartOf decoded locateOf operandOf aluOf drrOf drlOf branchOf lopOf executeOf fetchOf obeyOf instructionOf reachedOf poweredOf stepOf entryEnd noStep completed onward runOf enteredOf callOf numberOf registersOf wordsOf timingOf askedOf bytesOf pageOf cpuOf ended campaignOf decimalOf hexOf flagsOf lineOf
+pub marked-cases-hold : map (λ (c : MarkedCase). replyOf (c .asked)) markedCases ≡ map (λ (c : MarkedCase). c .expected) markedCases
+unfolding replyOf markedCases shiftsOf reportOf with-a with-t with-u with-p with-tm with-is-timer-reached with-timer-state with-ticks withFlags addOf decimalSumOf dcaSum dcsSum dcaOf dcsOf ldaOf at inside stored setByte store _>>=_ read write after exec writes readopOf shiftOf timerIncOf addStateOf passedOf timerPartOf decoded locateOf operandOf aluOf drrOf drlOf branchOf lopOf executeOf fetchOf decodedStepOf instructionOf reachedOf poweredOf stepOf notAccepted noStep completed onward runOf callUnless callOf numberOf numbersOf bytesOf pageOf recordOf ended campaignOf decimalOf hexOf flagsOf lineOf
 marked-cases-hold = refl
 
 -- the list is document 01's, in its order

@@ -1,6 +1,5 @@
--- The numbers of a run call: each entry number under its condition and no other, and what a refused call leaves.
+-- The numbers of a run call: each number under its condition and no other, and what a refused call leaves.
 use mathlib.Core.Path.{_≡_, refl}
-use mathlib.Core.List.{[]}
 use mathlib.Core.Logic.{_↔_, _⊎_, inl, inr, ⊎-elim}
 use Prim.Native.Nat.{ℕ, _≤_}
 use native.Mathlib.Omega.{arith}
@@ -9,14 +8,14 @@ use Rattle.execution.specs.declared.Inputs.{Inputs}
 use Rattle.pages.specs.Pages.{Pages}
 use Rattle.execution.specs.declared.Stop.{Stop}
 use Rattle.execution.specs.declared.Stop.the-variants.{Unlisted as UnlistedByte, UnlistedFd, Halted}
-use Rattle.execution.specs.Stops.{numberOf}
+use Rattle.execution.specs.Stops.{stopNumber}
 use Rattle.run.specs.declared.Settings.{Settings}
 use Rattle.run.specs.declared.End.{End}
 use Rattle.run.specs.declared.End.the-variants.{AllSteps, Page0Length, Page1Length, TimerValue, Limit, Step}
-use Rattle.run.specs.Entry.{endNumber, endByte, Page0TooLong, Page1TooLong, TimerTooLarge, LimitOut, Accepted}
-use Rattle.run.specs.Run.{Outcome, noStep, completed, runOf, callOf, callNumber}
+use Rattle.run.specs.Acceptance.{endNumber, endByte, Page0TooLong, Page1TooLong, TimerTooLarge, LimitOut, Accepted}
+use Rattle.run.specs.Run.{noStep, completed, runOf, callOf, callNumber, Refused}
 use Rattle.run.proofs.Steps.{run-each}
-use Rattle.run.proofs.Entry.{Entry, page0, page1, timer, limit, accepted, entry-case, entry-page0, entry-page1, entry-timer, entry-limit, call-run, call-end}
+use Rattle.run.proofs.Acceptance.{Acceptance, page0, page1, timer, limit, accepted, acceptance-case, acceptance-page0, acceptance-page1, acceptance-timer, acceptance-limit, call-run, call-end}
 
 -- "The byte returned is 0 unless the number is 5 or 6"
 pub byte-0 : (e : End) → ¬ (endNumber e ≡ 5) → ¬ (endNumber e ≡ 6) → endByte e ≡ 0
@@ -30,29 +29,20 @@ byte-0 (Step (UnlistedFd v)) a b = absurd (b refl)
 byte-0 (Step Halted) a b = refl
 
 -- the number of a call's steps is none of 1 to 4
-pub stop-number : (s : Stop) → 5 ≤ numberOf s
+pub stop-number : (s : Stop) → 5 ≤ stopNumber s
 stop-number (UnlistedByte v) = omega arith
 stop-number (UnlistedFd v) = omega arith
 stop-number Halted = omega arith
 
 run-number : (n : ℕ) (inputs : Inputs) (m : Lh5801) (p : Pages)
-    → (endNumber (runOf n inputs m p .told .end) ≡ 0) ⊎ (5 ≤ endNumber (runOf n inputs m p .told .end))
+    → (endNumber (runOf n inputs m p .answer .end) ≡ 0) ⊎ (5 ≤ endNumber (runOf n inputs m p .answer .end))
 unfolding noStep completed
 run-number n inputs =
-    run-each inputs (λ n m p o. (endNumber (o .told .end) ≡ 0) ⊎ (5 ≤ endNumber (o .told .end)))
+    run-each inputs (λ n m p o. (endNumber (o .answer .end) ≡ 0) ⊎ (5 ≤ endNumber (o .answer .end)))
     (λ m p. inl refl)
     (λ n m p s e. inr (stop-number s))
     (λ n m p k t kind e h. h)
     n
-
--- what a refused call returns and leaves: "given record, 0 steps, 0 states; pages untouched"
-pub record Refused (m : Lh5801) (p : Pages) (o : Outcome) : Type 0 where
-  pub cpu : o .told .cpu ≡ m
-  pub steps : o .told .steps ≡ 0
-  pub states : o .told .states ≡ 0
-  pub byte : endByte (o .told .end) ≡ 0
-  pub pages : o .pages ≡ p
-  pub wrote : o .wrote ≡ []
 
 none-refused : (e : End) (m : Lh5801) (p : Pages) → endByte e ≡ 0 → Refused m p (noStep e m p)
 unfolding noStep
@@ -62,24 +52,24 @@ none-refused e m p h = record { cpu = refl; steps = refl; states = refl; byte = 
 module _ (s : Settings) (m : Lh5801) (p : Pages) where
   is-1 : Page0TooLong p → callNumber s m p ≡ 1
   unfolding noStep
-  is-1 a = rw (call-end s m p (entry-page0 s m p a))
+  is-1 a = rw (call-end s m p (acceptance-page0 s m p a))
 
   is-2 : ¬ Page0TooLong p → Page1TooLong p → callNumber s m p ≡ 2
   unfolding noStep
-  is-2 a b = rw (call-end s m p (entry-page1 s m p a b))
+  is-2 a b = rw (call-end s m p (acceptance-page1 s m p a b))
 
   is-3 : ¬ Page0TooLong p → ¬ Page1TooLong p → TimerTooLarge m → callNumber s m p ≡ 3
   unfolding noStep
-  is-3 a b c = rw (call-end s m p (entry-timer s m p a b c))
+  is-3 a b c = rw (call-end s m p (acceptance-timer s m p a b c))
 
   is-4 : ¬ Page0TooLong p → ¬ Page1TooLong p → ¬ TimerTooLarge m → LimitOut s → callNumber s m p ≡ 4
   unfolding noStep
-  is-4 a b c d = rw (call-end s m p (entry-limit s m p a b c d))
+  is-4 a b c d = rw (call-end s m p (acceptance-limit s m p a b c d))
 
   is-none : Accepted s m p → (callNumber s m p ≡ 0) ⊎ (5 ≤ callNumber s m p)
   is-none h = rw (call-run s m p h) (run-number (s .limit) (s .inputs) m p)
 
-  to-three : Entry s m p
+  to-three : Acceptance s m p
       → ((callNumber s m p ≡ 1) ↔ Page0TooLong p)
       × ((callNumber s m p ≡ 2) ↔ (¬ Page0TooLong p × Page1TooLong p))
       × ((callNumber s m p ≡ 3) ↔ (¬ Page0TooLong p × ¬ Page1TooLong p × TimerTooLarge m))
@@ -89,33 +79,33 @@ module _ (s : Settings) (m : Lh5801) (p : Pages) where
   to-three (limit a b c d) = omega (arith, is-4 a b c d)
   to-three (accepted h) = ⊎-elim (λ z. omega arith) (λ z. omega arith) (is-none h)
 
-  to-four : Entry s m p → (callNumber s m p ≡ 4) ↔ (¬ Page0TooLong p × ¬ Page1TooLong p × ¬ TimerTooLarge m × LimitOut s)
+  to-four : Acceptance s m p → (callNumber s m p ≡ 4) ↔ (¬ Page0TooLong p × ¬ Page1TooLong p × ¬ TimerTooLarge m × LimitOut s)
   to-four (page0 a) = (λ e. absurd (omega (arith, is-1 a)), λ h. absurd (h .0 a))
   to-four (page1 a b) = (λ e. absurd (omega (arith, is-2 a b)), λ h. absurd (h .1 b))
   to-four (timer a b c) = (λ e. absurd (omega (arith, is-3 a b c)), λ h. absurd (h .2 c))
   to-four (limit a b c d) = (λ e. (a, b, c, d), λ h. is-4 a b c d)
   to-four (accepted h) = (λ e. absurd (⊎-elim (λ z. omega arith) (λ z. omega arith) (is-none h)), λ x. absurd (h .limit (x .3)))
 
-  -- each number of the entry under its condition and no other, in document 01's order
+  -- each number from 1 to 4 under its condition and no other, in document 01's order
   pub number-1 : (callNumber s m p ≡ 1) ↔ Page0TooLong p
-  number-1 = to-three (entry-case s m p) .0
+  number-1 = to-three (acceptance-case s m p) .0
 
   pub number-2 : (callNumber s m p ≡ 2) ↔ (¬ Page0TooLong p × Page1TooLong p)
-  number-2 = to-three (entry-case s m p) .1
+  number-2 = to-three (acceptance-case s m p) .1
 
   pub number-3 : (callNumber s m p ≡ 3) ↔ (¬ Page0TooLong p × ¬ Page1TooLong p × TimerTooLarge m)
-  number-3 = to-three (entry-case s m p) .2
+  number-3 = to-three (acceptance-case s m p) .2
 
   pub number-4 : (callNumber s m p ≡ 4) ↔ (¬ Page0TooLong p × ¬ Page1TooLong p × ¬ TimerTooLarge m × LimitOut s)
-  number-4 = to-four (entry-case s m p)
+  number-4 = to-four (acceptance-case s m p)
 
-  to-refused : Entry s m p → 1 ≤ callNumber s m p → callNumber s m p ≤ 4 → Refused m p (callOf s m p)
-  to-refused (page0 a) i j = rw (call-end s m p (entry-page0 s m p a)) (none-refused _ m p refl)
-  to-refused (page1 a b) i j = rw (call-end s m p (entry-page1 s m p a b)) (none-refused _ m p refl)
-  to-refused (timer a b c) i j = rw (call-end s m p (entry-timer s m p a b c)) (none-refused _ m p refl)
-  to-refused (limit a b c d) i j = rw (call-end s m p (entry-limit s m p a b c d)) (none-refused _ m p refl)
+  to-refused : Acceptance s m p → 1 ≤ callNumber s m p → callNumber s m p ≤ 4 → Refused m p (callOf s m p)
+  to-refused (page0 a) i j = rw (call-end s m p (acceptance-page0 s m p a)) (none-refused _ m p refl)
+  to-refused (page1 a b) i j = rw (call-end s m p (acceptance-page1 s m p a b)) (none-refused _ m p refl)
+  to-refused (timer a b c) i j = rw (call-end s m p (acceptance-timer s m p a b c)) (none-refused _ m p refl)
+  to-refused (limit a b c d) i j = rw (call-end s m p (acceptance-limit s m p a b c d)) (none-refused _ m p refl)
   to-refused (accepted h) i j = absurd (⊎-elim (λ z. omega arith) (λ z. omega arith) (is-none h))
 
   -- on 1 to 4
   pub call-refused : 1 ≤ callNumber s m p → callNumber s m p ≤ 4 → Refused m p (callOf s m p)
-  call-refused = to-refused (entry-case s m p)
+  call-refused = to-refused (acceptance-case s m p)

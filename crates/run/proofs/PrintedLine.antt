@@ -12,7 +12,8 @@ use lib.Seq.{sets, length-sets, sets-eq, take-at, drop-at}
 use lib.Dec.{ltb}
 use borrow.Author.Tests.{lt-ltb, le-ltb}
 use Rattle.arithmetic.specs.declared.record.Lh5801.{Lh5801}
-use Rattle.run.specs.Line.{space, decimalDigits, decimalOf, hexDigit, hexOf, spaced, joined, countFields, registerFields, counterFields, Put, Printed}
+use Rattle.run.specs.Line.{space, decimalDigits, decimalOf, hexDigit, hexOf, joined, countFields, registerFields, counterFields, Printed}
+use Rattle.run.specs.Code.LineParts.{spaced, Put}
 use Rattle.run.proofs.CampaignFile.Groups.{lt-or-ge}
 
 -- ---- one piece after another

@@ -15,7 +15,7 @@ use Rattle.execution.specs.declared.Stop.{Stop}
 use Rattle.execution.specs.Step.{Kind, StepEnd, did, stopped, stepOf}
 use Rattle.run.specs.declared.End.{End}
 use Rattle.run.specs.declared.End.the-variants.{AllSteps, Step}
-use Rattle.run.specs.Run.{Outcome, outcome, noStep, completed, oneStep, onward, runOf, accessesAfter, accessesOf}
+use Rattle.run.specs.Run.{CallResult, callResult, noStep, completed, oneStep, onward, runOf, accessesAfter, accessesOf}
 
 -- the first step of a call is completed, or stops
 module _ (inputs : Inputs) (m : Lh5801) (p : Pages) (n : ℕ) where
@@ -40,7 +40,7 @@ module _ (inputs : Inputs) (m : Lh5801) (p : Pages) (n : ℕ) where
 -- what holds of the steps of every call: it is enough to see to no step, to a step that stops, and to a completed one
 module _
     (inputs : Inputs)
-    (P : ℕ → Lh5801 → Pages → Outcome → Type 0)
+    (P : ℕ → Lh5801 → Pages → CallResult → Type 0)
     (all : (m : Lh5801) (p : Pages) → P 0 m p (noStep AllSteps m p))
     (stop : (n : ℕ) (m : Lh5801) (p : Pages) (s : Stop) → oneStep inputs m p .answer ≡ stopped s → P (suc n) m p (noStep (Step s) m p))
     (next : (n : ℕ) (m : Lh5801) (p : Pages) (k : Lh5801) (t : ℕ) (kind : Kind)
@@ -71,28 +71,28 @@ run-written n inputs =
     (λ n m p k t kind e h. written-then (exec-written (stepOf m inputs) p) h)
     n
 
--- one outcome, and then another from what it left
-unfoldable pub join : Outcome → Outcome → Outcome
+-- the result of a call, and then another from what it left
+unfoldable pub join : CallResult → CallResult → CallResult
 join x y =
-    outcome (y .told .end) (x .told .steps + y .told .steps) (x .told .states + y .told .states) (y .told .cpu) (y .pages) (x .wrote ++ y .wrote)
+    callResult (y .answer .end) (x .answer .steps + y .answer .steps) (x .answer .states + y .answer .states) (y .answer .cpu) (y .pages) (x .wrote ++ y .wrote)
 
-join-noStep : (e : End) (m : Lh5801) (p : Pages) (y : Outcome) → join (noStep e m p) y ≡ y
+join-noStep : (e : End) (m : Lh5801) (p : Pages) (y : CallResult) → join (noStep e m p) y ≡ y
 unfolding join noStep
 join-noStep e m p y = simp zero-add
 
-join-completed : (t : ℕ) (ws : List Write) (x y : Outcome) → join (completed t ws x) y ≡ completed t ws (join x y)
+join-completed : (t : ℕ) (ws : List Write) (x y : CallResult) → join (completed t ws x) y ≡ completed t ws (join x y)
 unfolding join completed
 join-completed t ws x y = simp (suc-add, add-assoc, append-assoc)
 
--- an outcome, and then more steps
-more : ℕ → Inputs → Outcome → Outcome
-more l inputs x = join x (runOf l inputs (x .told .cpu) (x .pages))
+-- the result of a call, and then more steps
+more : ℕ → Inputs → CallResult → CallResult
+more l inputs x = join x (runOf l inputs (x .answer .cpu) (x .pages))
 
 more-noStep : (l : ℕ) (inputs : Inputs) (e : End) (m : Lh5801) (p : Pages) → more l inputs (noStep e m p) ≡ runOf l inputs m p
 unfolding more noStep
 more-noStep l inputs e m p = join-noStep e m p _
 
-more-completed : (l : ℕ) (inputs : Inputs) (t : ℕ) (ws : List Write) (x : Outcome) → more l inputs (completed t ws x) ≡ completed t ws (more l inputs x)
+more-completed : (l : ℕ) (inputs : Inputs) (t : ℕ) (ws : List Write) (x : CallResult) → more l inputs (completed t ws x) ≡ completed t ws (more l inputs x)
 unfolding more completed
 more-completed l inputs t ws x = join-completed t ws x _
 
@@ -106,23 +106,23 @@ run-more n l inputs =
 
 -- the steps of a call, cut in two: the second part goes on from what the first left, also after a stop
 pub run-split : (n l : ℕ) (inputs : Inputs) (m : Lh5801) (p : Pages) → 1 ≤ l
-    → join (runOf n inputs m p) (runOf l inputs (runOf n inputs m p .told .cpu) (runOf n inputs m p .pages)) ≡ runOf (n + l) inputs m p
+    → join (runOf n inputs m p) (runOf l inputs (runOf n inputs m p .answer .cpu) (runOf n inputs m p .pages)) ≡ runOf (n + l) inputs m p
 unfolding more
 run-split n zero inputs m p h = absurd (not-suc-le-zero h)
 run-split n (suc l) inputs m p h = run-more n l inputs m p
 
 -- two outcomes that differ at most in their pages
-pub record SameButPages (x y : Outcome) : Type 0 where
-  pub told : y .told ≡ x .told
+pub record SameButPages (x y : CallResult) : Type 0 where
+  pub answer : y .answer ≡ x .answer
   pub wrote : y .wrote ≡ x .wrote
 
 twins-noStep : (e : End) (m : Lh5801) (p q : Pages) → SameButPages (noStep e m p) (noStep e m q)
 unfolding noStep
-twins-noStep e m p q = record { told = refl; wrote = refl }
+twins-noStep e m p q = record { answer = refl; wrote = refl }
 
-same-completed : (t : ℕ) (ws vs : List Write) (x y : Outcome) → vs ≡ ws → SameButPages x y → SameButPages (completed t ws x) (completed t vs y)
+same-completed : (t : ℕ) (ws vs : List Write) (x y : CallResult) → vs ≡ ws → SameButPages x y → SameButPages (completed t ws x) (completed t vs y)
 unfolding completed
-same-completed t ws vs x y e h = record { told = rw (h .told); wrote = rw (e, h .wrote) }
+same-completed t ws vs x y e h = record { answer = rw (h .answer); wrote = rw (e, h .wrote) }
 
 -- on pages that agree where the steps read first, they tell and write the same
 pub run-agree : (n : ℕ) (inputs : Inputs) (m : Lh5801) (p q : Pages) → SameLength p q → Agree p q (accessesOf n inputs m p)

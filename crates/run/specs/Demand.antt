@@ -8,8 +8,8 @@ use Rattle.execution.specs.declared.Inputs.{Inputs}
 use Rattle.pages.specs.Pages.{Pages, SameLength}
 use Rattle.pages.specs.Written.{Written, Agree}
 use Rattle.run.specs.declared.Settings.{Settings}
-use Rattle.run.specs.Entry.{endNumber, endByte, Accepted}
-use Rattle.run.specs.Run.{Outcome, accessesOf, callOf, settings, callsOf}
+use Rattle.run.specs.Acceptance.{endNumber, endByte, Accepted}
+use Rattle.run.specs.Run.{CallResult, accessesOf, callOf, settings, callsOf}
 
 unfoldable pub sum : List ℕ → ℕ
 sum [] = 0
@@ -24,24 +24,24 @@ unfoldable pub AllAccepted : List ℕ → Inputs → Lh5801 → Pages → Type 0
 AllAccepted [] inputs m p = Unit {0}
 AllAccepted (limit ∷ limits) inputs m p =
     let x = callOf (settings inputs limit) m p in
-    Accepted (settings inputs limit) m p × AllAccepted limits inputs (x .told .cpu) (x .pages)
+    Accepted (settings inputs limit) m p × AllAccepted limits inputs (x .answer .cpu) (x .pages)
 
 -- the calls, from the pages q, tell and do what the run, from the pages p, does
-pub record SameAsRun (p q : Pages) (run : Outcome) (calls : List Outcome) : Type 0 where
+pub record SameAsRun (p q : Pages) (run : CallResult) (calls : List CallResult) : Type 0 where
   pub some-call : calls ≢ []
   -- document 01's "final stop": the number and the byte that the last call returns
-  pub end : getLast calls some-call .told .end ≡ run .told .end
-  pub number : endNumber (getLast calls some-call .told .end) ≡ endNumber (run .told .end)
-  pub byte : endByte (getLast calls some-call .told .end) ≡ endByte (run .told .end)
+  pub end : getLast calls some-call .answer .end ≡ run .answer .end
+  pub number : endNumber (getLast calls some-call .answer .end) ≡ endNumber (run .answer .end)
+  pub byte : endByte (getLast calls some-call .answer .end) ≡ endByte (run .answer .end)
   -- document 01's "end record": the one that it returns
-  pub cpu : getLast calls some-call .told .cpu ≡ run .told .cpu
+  pub cpu : getLast calls some-call .answer .cpu ≡ run .answer .cpu
   -- "Steps and states are summed over the calls"
-  pub steps : sum (map (λ (o : Outcome). o .told .steps) calls) ≡ run .told .steps
-  pub states : sum (map (λ (o : Outcome). o .told .states) calls) ≡ run .told .states
-  pub wrote : flatten (map (λ (o : Outcome). o .wrote) calls) ≡ run .wrote
+  pub steps : sum (map (λ (o : CallResult). o .answer .steps) calls) ≡ run .answer .steps
+  pub states : sum (map (λ (o : CallResult). o .answer .states) calls) ≡ run .answer .states
+  pub wrote : flatten (map (λ (o : CallResult). o .wrote) calls) ≡ run .wrote
   -- "On both sides a written byte holds what was last written there, and each unwritten byte is its own page's"
   pub run-pages : Written p (run .wrote) (run .pages)
-  pub list-pages : Written q (flatten (map (λ (o : Outcome). o .wrote) calls)) (getLast calls some-call .pages)
+  pub list-pages : Written q (flatten (map (λ (o : CallResult). o .wrote) calls)) (getLast calls some-call .pages)
 
 -- for every accepted run, and every list of limits, at least 1 each, that add up to the run's; for pages equally long, that agree at each
 -- byte that the run reads before it has written it. An empty list adds up to 0, and such a run is not accepted

@@ -1,11 +1,14 @@
-pub mod Entry
+pub mod Acceptance
 pub mod Run
 pub mod Reaches
-pub mod Leads
+pub mod Code
 pub mod Demand
 pub mod Answers
+pub mod RecordNumbers
 pub mod CampaignFile
 pub mod CampaignRefusals
 pub mod Line
+pub mod Parts
 pub mod Report
 pub mod Marked
+pub mod AccessOrders

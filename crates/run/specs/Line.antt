@@ -5,10 +5,9 @@ use mathlib.Core.Path.{_≡_}
 use mathlib.Core.Bool.{cond}
 use mathlib.Core.List.{List, [], _∷_, _++_}
 use lib.ListN.{length, take, drop}
-use lib.Seq.{sets}
 use lib.Dec.{ltb}
 use Rattle.arithmetic.specs.declared.record.Lh5801.{Lh5801}
-use Rattle.run.specs.CampaignFile.{flagsOf}
+use Rattle.run.specs.RecordNumbers.{flagsOf}
 
 -- the characters
 abbrev pub space : ℕ
@@ -60,16 +59,6 @@ lineOf number steps states m = joined (countFields number steps states ++ regist
 -- "For 8 to 10: number and offset."
 unfoldable pub refusalLineOf : ℕ → ℕ → List ℕ
 refusalLineOf number offset = joined (decimalOf number ∷ decimalOf offset ∷ [])
-
--- a part of a line, a space after each of its fields
-abbrev pub spaced : List (List ℕ) → List ℕ
-spaced [] = []
-spaced (field ∷ fields) = field ++ (space ∷ spaced fields)
-
--- bytes written from a place on: nothing else of the buffer changes, and the next place is after them
-pub record Put (before : List ℕ) (at : ℕ) (bytes : List ℕ) (after : List ℕ) (next : ℕ) : Type 0 where
-  pub next-is : next ≡ at + length bytes
-  pub after-is : after ≡ sets before at bytes
 
 -- a line at the start of the buffer, whose length is returned
 pub record Printed (before : List ℕ) (bytes : List ℕ) (after : List ℕ) (r : ℕ) : Type 0 where

@@ -7,14 +7,13 @@ use mathlib.Core.List.{List, [], _∷_, _++_}
 use lib.ListN.{replicate}
 use Rattle.arithmetic.specs.declared.record.Lh5801.{Lh5801}
 use Rattle.arithmetic.specs.Record.{with-tm, with-is-timer-reached}
-use Rattle.arithmetic.specs.Marked.{Bytes, bytes}
 use Rattle.pages.specs.Pages.{Pages, pages}
 use Rattle.pages.specs.Prog.{Ran}
 use Rattle.pages.specs.Timer.{timerIncOf}
 use Rattle.execution.specs.Inputs.{ofKeyboard}
 use Rattle.execution.specs.Step.{StepEnd, did, instruction}
 use Rattle.run.specs.Run.{oneStep}
-use Rattle.run.specs.CampaignFile.{cpuOf}
+use Rattle.run.specs.RecordNumbers.{recordOf}
 use Rattle.run.specs.Report.{reportOf}
 
 -- what a marked case asks
@@ -26,38 +25,36 @@ pub data Question : Type 0 where
   -- the line that is printed for a campaign file
   file : List ℕ → Question
 
--- and what it is told
-pub data Told : Type 0 where
-  ends : StepEnd → Pages → Told
-  records : List Lh5801 → Told
-  line : List ℕ → Told
+-- and the reply
+pub data Reply : Type 0 where
+  ends : StepEnd → Pages → Reply
+  records : List Lh5801 → Reply
+  line : List ℕ → Reply
 
 -- ---- the answers by the definitions
 
-abbrev pub endsOf : Ran StepEnd → Told
+abbrev pub endsOf : Ran StepEnd → Reply
 endsOf r = ends (r .answer) (r .pages)
 
 unfoldable pub shiftsOf : ℕ → Lh5801 → List Lh5801
 shiftsOf zero m = []
 shiftsOf (suc n) m = timerIncOf m ∷ shiftsOf n (timerIncOf m)
 
-unfoldable pub toldOf : Question → Told
-toldOf (step m p) = endsOf (oneStep (ofKeyboard 0) m p)
-toldOf (shifts n m) = records (shiftsOf n m)
-toldOf (file bytes) = line (reportOf bytes)
+unfoldable pub replyOf : Question → Reply
+replyOf (step m p) = endsOf (oneStep (ofKeyboard 0) m p)
+replyOf (shifts n m) = records (shiftsOf n m)
+replyOf (file bytes) = line (reportOf bytes)
 
 -- ---- the cases
 
 pub record MarkedCase : Type 0 where
   pub number : ℕ
   pub asked : Question
-  pub expected : Told
+  pub expected : Reply
 
 -- BF is set; A, T, X, U and P are as given; so many states were counted, by the timer states and by the ticks; all else is 0
 abbrev pub cpu : ℕ → ℕ → ℕ → ℕ → ℕ → ℕ → Lh5801
-cpu a t x u p states =
-    cpuOf (record { a = a; t = t }) (record { x = x; y = 0; u = u; s = 0; p = p })
-    (record { tm = 0; flags = 8; «timer_state» = states; «step_previous_state» = 0; ticks = states })
+cpu a t x u p states = recordOf (a ∷ t ∷ x ∷ 0 ∷ u ∷ 0 ∷ p ∷ 0 ∷ 8 ∷ states ∷ 0 ∷ states ∷ [])
 
 -- a page 0 of two bytes, the opcode at 0
 abbrev pub code2 : ℕ → ℕ → Pages
@@ -66,6 +63,15 @@ code2 opcode byte = pages (opcode ∷ byte ∷ []) []
 -- one step that executes a first-page opcode: record and pages before; record, states and pages after
 abbrev pub executes : ℕ → ℕ → Lh5801 → Pages → Lh5801 → ℕ → Pages → MarkedCase
 executes n opcode m p k states q = record { number = n; asked = step m p; expected = ends (did k states (instruction false opcode)) q }
+
+-- A, T and the byte that an instruction works on
+pub record Bytes : Type 0 where
+  pub a : ℕ
+  pub t : ℕ
+  pub byte : ℕ
+
+abbrev pub bytes : ℕ → ℕ → ℕ → Bytes
+bytes a t byte = record { a = a; t = t; byte = byte }
 
 -- A, T and the byte at X, before and after. X is 1, where the byte stands behind the opcode
 abbrev pub onByte : ℕ → ℕ → Bytes → Bytes → ℕ → MarkedCase

@@ -18,8 +18,8 @@ pub data Reaches (inputs : Inputs) : ℕ → Lh5801 → Pages → Lh5801 → Pag
       → Reaches inputs j n (oneStep inputs m p .pages) k q t ws
       → Reaches inputs (suc j) m p k q (s + t) (writes (oneStep inputs m p .accesses) ++ ws)
 
--- fewer than n completed steps lead to a record and pages from which the next step stops with s
-pub record StopsWithin (inputs : Inputs) (n : ℕ) (m : Lh5801) (p : Pages) (s : Stop) : Type 0 where
+-- fewer than n completed steps lead to a record and pages at which C holds
+pub record ComesTo (inputs : Inputs) (n : ℕ) (m : Lh5801) (p : Pages) (C : Lh5801 → Pages → Type 0) : Type 0 where
   pub steps : ℕ
   pub states : ℕ
   pub cpu : Lh5801
@@ -27,4 +27,8 @@ pub record StopsWithin (inputs : Inputs) (n : ℕ) (m : Lh5801) (p : Pages) (s :
   pub wrote : List Write
   pub fewer : steps < n
   pub reached : Reaches inputs steps m p cpu pages states wrote
-  pub stops : oneStep inputs cpu pages .answer ≡ stopped s
+  pub holds : C cpu pages
+
+-- the next step stops with s
+abbrev pub StopsWith : Inputs → Stop → Lh5801 → Pages → Type 0
+StopsWith inputs s k q = oneStep inputs k q .answer ≡ stopped s

@@ -1,6 +1,7 @@
 -- The run call: what it tells, leaves and writes, its accesses, and calls one after another.
 use Prim.Native.Nat.{ℕ, zero, suc, _+_}
 use mathlib.Core.List.{List, [], _∷_, _++_}
+use mathlib.Core.Path.{_≡_}
 use mathlib.Core.Option.{Option, none, some}
 use Rattle.arithmetic.specs.declared.record.Lh5801.{Lh5801}
 use Rattle.execution.specs.declared.Inputs.{Inputs}
@@ -12,38 +13,38 @@ use Rattle.run.specs.declared.Settings.{Settings}
 use Rattle.run.specs.declared.End.{End}
 use Rattle.run.specs.declared.End.the-variants.{AllSteps, Step}
 use Rattle.run.specs.declared.Answer.{Answer}
-use Rattle.run.specs.Entry.{endNumber, entryEnd}
+use Rattle.run.specs.Acceptance.{endNumber, endByte, notAccepted}
 
 -- what a call tells: its end, its completed steps, the sum of their states (document 01's "states") and the record; the pages that it leaves;
 -- and the writes of its completed steps in order, document 01's "dropped" ones included
-pub record Outcome : Type 0 where
-  pub told : Answer
+pub record CallResult : Type 0 where
+  pub answer : Answer
   pub pages : Pages
   pub wrote : List Write
 
-abbrev pub outcome : End → ℕ → ℕ → Lh5801 → Pages → List Write → Outcome
-outcome e steps states m p ws = record { told = record { end = e; steps = steps; states = states; cpu = m }; pages = p; wrote = ws }
+abbrev pub callResult : End → ℕ → ℕ → Lh5801 → Pages → List Write → CallResult
+callResult e steps states m p ws = record { answer = record { end = e; steps = steps; states = states; cpu = m }; pages = p; wrote = ws }
 
 -- no step is completed: the given record and pages stand
-unfoldable pub noStep : End → Lh5801 → Pages → Outcome
-noStep e m p = outcome e 0 0 m p []
+unfoldable pub noStep : End → Lh5801 → Pages → CallResult
+noStep e m p = callResult e 0 0 m p []
 
 -- document 01's "completed step", with its states and its writes, and what comes after it
-unfoldable pub completed : ℕ → List Write → Outcome → Outcome
+unfoldable pub completed : ℕ → List Write → CallResult → CallResult
 completed states ws o =
-    outcome (o .told .end) (suc (o .told .steps)) (states + o .told .states) (o .told .cpu) (o .pages) (ws ++ o .wrote)
+    callResult (o .answer .end) (suc (o .answer .steps)) (states + o .answer .states) (o .answer .cpu) (o .pages) (ws ++ o .wrote)
 
 -- what one step comes to
 abbrev pub oneStep : Inputs → Lh5801 → Pages → Ran StepEnd
 oneStep inputs m p = exec (stepOf m inputs) p
 
 -- after a completed step comes the rest, from its record; "a step that stops is undone whole"
-unfoldable pub onward : Lh5801 → Pages → List Write → StepEnd → (Lh5801 → Outcome) → Outcome
+unfoldable pub onward : Lh5801 → Pages → List Write → StepEnd → (Lh5801 → CallResult) → CallResult
 onward m p ws (did k states kind) rest = completed states ws (rest k)
 onward m p ws (stopped s) rest = noStep (Step s) m p
 
 -- the steps of a call: so many, or up to the first that stops
-unfoldable pub runOf : ℕ → Inputs → Lh5801 → Pages → Outcome
+unfoldable pub runOf : ℕ → Inputs → Lh5801 → Pages → CallResult
 runOf zero inputs m p = noStep AllSteps m p
 runOf (suc n) inputs m p =
     let x = oneStep inputs m p in
@@ -61,24 +62,36 @@ accessesOf (suc n) inputs m p =
     x .accesses ++ accessesAfter (x .answer) (λ k. accessesOf n inputs k (x .pages))
 
 -- a call that is refused, and one that is accepted
-unfoldable pub enteredOf : Option End → Settings → Lh5801 → Pages → Outcome
-enteredOf (some e) s m p = noStep e m p
-enteredOf none s m p = runOf (s .limit) (s .inputs) m p
+unfoldable pub callUnless : Option End → Settings → Lh5801 → Pages → CallResult
+callUnless (some e) s m p = noStep e m p
+callUnless none s m p = runOf (s .limit) (s .inputs) m p
 
 -- the run call
-unfoldable pub callOf : Settings → Lh5801 → Pages → Outcome
-callOf s m p = enteredOf (entryEnd s m p) s m p
+unfoldable pub callOf : Settings → Lh5801 → Pages → CallResult
+callOf s m p = callUnless (notAccepted s m p) s m p
 
--- the number that it returns
+-- the number and the byte that it returns
 abbrev pub callNumber : Settings → Lh5801 → Pages → ℕ
-callNumber s m p = endNumber (callOf s m p .told .end)
+callNumber s m p = endNumber (callOf s m p .answer .end)
+
+abbrev pub callByte : Settings → Lh5801 → Pages → ℕ
+callByte s m p = endByte (callOf s m p .answer .end)
+
+-- what a call that is not accepted returns and leaves: "given record, 0 steps, 0 states; pages untouched"
+pub record Refused (m : Lh5801) (p : Pages) (o : CallResult) : Type 0 where
+  pub cpu : o .answer .cpu ≡ m
+  pub steps : o .answer .steps ≡ 0
+  pub states : o .answer .states ≡ 0
+  pub byte : endByte (o .answer .end) ≡ 0
+  pub pages : o .pages ≡ p
+  pub wrote : o .wrote ≡ []
 
 abbrev pub settings : Inputs → ℕ → Settings
 settings inputs limit = record { inputs = inputs; limit = limit }
 
 -- run calls with these limits: each gets the same inputs, and the record and pages that the call before left
-unfoldable pub callsOf : List ℕ → Inputs → Lh5801 → Pages → List Outcome
+unfoldable pub callsOf : List ℕ → Inputs → Lh5801 → Pages → List CallResult
 callsOf [] inputs m p = []
 callsOf (limit ∷ limits) inputs m p =
     let x = callOf (settings inputs limit) m p in
-    x ∷ callsOf limits inputs (x .told .cpu) (x .pages)
+    x ∷ callsOf limits inputs (x .answer .cpu) (x .pages)

@@ -1,10 +1,31 @@
 // Document 01's campaign file: a record, the asked and the two pages of one call, as bytes.
 // The reading place goes in by value, as a `Cursor`, and comes back; each field is either read with its next place or turned down.
 ghost use mathlib.Core.Path.{_≡_};
-ghost use Rattle.run.specs.CampaignFile.{judged, numberOf, registersOf, wordsOf, timingOf, askedOf, pageOf, cpuOf, partsOf, campaignOf};
-ghost use Rattle.run.specs.CampaignFile.{refusalNumber, refusalOffset, numberAnswer, registersAnswer, wordsAnswer, timingAnswer, askedAnswer, pageAnswer, campaignAnswer};
-ghost use Rattle.run.specs.CampaignFile.{numberStop, registersStop, wordsStop, timingStop, askedStop, pageStop};
+ghost use Prim.Native.Nat.{_<_};
+ghost use lib.ListN.{length, getD};
+ghost use Rattle.run.specs.RecordNumbers.{AllWithin};
+ghost use Rattle.run.specs.CampaignFile.{refusalNumber, refusalOffset, checkedOf, numberOf, greatestValues, numbersOf, pageOf, partsOf, campaignOf, campaignAnswer};
+ghost use Rattle.run.specs.Code.FileAnswers.{numberField, numbersField, pageField, numberStop, numbersStop, pageStop};
+use crate::record_numbers;
 use arithmetic::record::Lh5801;
+
+// The numbers' greatest values in the file's order: A, T; X, Y, U, S, P; TM; flags; timer states, previous states and ticks; keyboard; limit.
+const GREATEST: [u64; 14] = [
+    255,
+    255,
+    65535,
+    65535,
+    65535,
+    65535,
+    65535,
+    4095,
+    511,
+    0xffff_ffff_ffff_ffff,
+    0xffff_ffff_ffff_ffff,
+    0xffff_ffff_ffff_ffff,
+    255,
+    0xffff_ffff,
+];
 
 // A place of the file.
 pub struct Cursor {
@@ -27,42 +48,9 @@ pub enum Number {
     Refused(Refusal),
 }
 
-// A and T.
-pub struct Registers {
-    pub a: u8,
-    pub t: u8,
-}
-
-pub enum RegistersRead {
-    Read(Registers, Cursor),
-    Refused(Refusal),
-}
-
-// X, Y, U, S and P.
-pub struct Words {
-    pub x: u16,
-    pub y: u16,
-    pub u: u16,
-    pub s: u16,
-    pub p: u16,
-}
-
-pub enum WordsRead {
-    Read(Words, Cursor),
-    Refused(Refusal),
-}
-
-// TM, the flags as one number, and document 01's timer states, previous states and ticks.
-pub struct Timing {
-    pub tm: u16,
-    pub flags: u16,
-    pub timer_state: u64,
-    pub step_previous_state: u64,
-    pub ticks: u64,
-}
-
-pub enum TimingRead {
-    Read(Timing, Cursor),
+// The place after the fourteen numbers, or why the file is turned down.
+pub enum NumbersRead {
+    Read(Cursor),
     Refused(Refusal),
 }
 
@@ -72,17 +60,13 @@ pub struct Asked {
     pub limit: u32,
 }
 
-pub enum AskedRead {
-    Read(Asked, Cursor),
-    Refused(Refusal),
-}
-
 // Where a page's bytes begin in the file, and how many they are.
 pub struct Page {
     pub at: usize,
     pub len: usize,
 }
 
+// A page with the place after it, or why the file is turned down.
 pub enum PageRead {
     Read(Page, Cursor),
     Refused(Refusal),
@@ -139,50 +123,14 @@ impl Number {
     }
 }
 
-impl RegistersRead {
+impl NumbersRead {
     // The refusal to hand upward. An answer that has none gives the place after what was read, as a refusal.
     fn stop(self) -> Refusal
-        ensures { λ r. ⌜ r ≡ registersStop self ⌝ }
+        ensures { λ r. ⌜ r ≡ numbersStop self ⌝ }
     {
         match self {
-            RegistersRead::Refused(stop) => stop,
-            RegistersRead::Read(_, next) => Refusal::Ends(next.at),
-        }
-    }
-}
-
-impl WordsRead {
-    // The refusal to hand upward. An answer that has none gives the place after what was read, as a refusal.
-    fn stop(self) -> Refusal
-        ensures { λ r. ⌜ r ≡ wordsStop self ⌝ }
-    {
-        match self {
-            WordsRead::Refused(stop) => stop,
-            WordsRead::Read(_, next) => Refusal::Ends(next.at),
-        }
-    }
-}
-
-impl TimingRead {
-    // The refusal to hand upward. An answer that has none gives the place after what was read, as a refusal.
-    fn stop(self) -> Refusal
-        ensures { λ r. ⌜ r ≡ timingStop self ⌝ }
-    {
-        match self {
-            TimingRead::Refused(stop) => stop,
-            TimingRead::Read(_, next) => Refusal::Ends(next.at),
-        }
-    }
-}
-
-impl AskedRead {
-    // The refusal to hand upward. An answer that has none gives the place after what was read, as a refusal.
-    fn stop(self) -> Refusal
-        ensures { λ r. ⌜ r ≡ askedStop self ⌝ }
-    {
-        match self {
-            AskedRead::Refused(stop) => stop,
-            AskedRead::Read(_, next) => Refusal::Ends(next.at),
+            NumbersRead::Refused(stop) => stop,
+            NumbersRead::Read(next) => Refusal::Ends(next.at),
         }
     }
 }
@@ -199,9 +147,9 @@ impl PageRead {
     }
 }
 
-// What is judged after a number's last group: it has to be written in the shortest way and to be at most its field's greatest value.
-fn judge(begin: usize, next: usize, value: u64, shortest: bool, greatest: u64) -> Number
-    ensures { λ r. ⌜ r ≡ numberAnswer (judged begin next value shortest greatest) ⌝ }
+// What is checked after a number's last group: it has to be written in the shortest way and to be at most its field's greatest value.
+fn checked(begin: usize, next: usize, value: u64, shortest: bool, greatest: u64) -> Number
+    ensures { λ r. ⌜ checkedOf begin next value shortest greatest ≡ numberField r ⌝ }
 {
     if shortest {
         if value <= greatest {
@@ -211,16 +159,18 @@ fn judge(begin: usize, next: usize, value: u64, shortest: bool, greatest: u64) -
     Number::Refused(Refusal::Unfit(begin))
 }
 
-fn wide(byte: u8) -> u64
-    ensures { λ r. ⌜ r ≡ byte ⌝ }
+// The greatest value of the number at this place.
+fn greatest(i: usize) -> u64
+    requires { ⌜ i < 14 ⌝ }
+    ensures { λ r. ⌜ r ≡ getD greatestValues i 0 ⌝ }
 {
-    byte as u64
+    GREATEST[i]
 }
 
 impl Cursor {
     // One number: groups of seven bits, the lowest first, the top bit set on all but the last.
     pub fn number(self, bytes: &[u8], greatest: u64) -> Number
-        ensures { λ r. ⌜ r ≡ numberAnswer (numberOf greatest (now (bytes .entry)) (self .at)) ⌝ }
+        ensures { λ r. ⌜ numberOf greatest (now (bytes .entry)) (self .at) ≡ numberField r ⌝ }
     {
         let begin = self.at;
         let mut at = begin;
@@ -230,10 +180,10 @@ impl Cursor {
             if bytes.len() <= at {
                 return Number::Refused(Refusal::Ends(begin));
             }
-            let group = wide(bytes[at]);
+            let group = record_numbers::byte(bytes[at]);
             if group < 128 {
                 let shortest = (at == begin) | (group != 0);
-                return judge(begin, at + 1, value + weight * group, shortest, greatest);
+                return checked(begin, at + 1, value + weight * group, shortest, greatest);
             }
             value = value + weight * (group % 128);
             weight = weight * 128;
@@ -244,121 +194,34 @@ impl Cursor {
             return Number::Refused(Refusal::Ends(begin));
         }
         if bytes[at] == 1 {
-            judge(begin, at + 1, value + 0x8000_0000_0000_0000, true, greatest)
+            checked(begin, at + 1, value + 0x8000_0000_0000_0000, true, greatest)
         } else {
             Number::Refused(Refusal::Unfit(begin))
         }
     }
 
-    pub fn registers(self, bytes: &[u8]) -> RegistersRead
-        ensures { λ r. ⌜ r ≡ registersAnswer (registersOf (now (bytes .entry)) (self .at)) ⌝ }
+    // The fourteen numbers, one after another.
+    pub fn numbers(self, bytes: &[u8], values: &mut [u64]) -> NumbersRead
+        requires { ⌜ length (now values) ≡ 14 ⌝ }
+        ensures { λ r. ⌜ numbersOf greatestValues (now (bytes .entry)) (self .at) ≡ numbersField (now (values .exit)) r ⌝ }
     {
-        let c = self;
-        let answer = c.number(bytes, 255);
-        let Number::Read(a, c) = answer else {
-            return RegistersRead::Refused(answer.stop());
-        };
-        let answer = c.number(bytes, 255);
-        let Number::Read(t, c) = answer else {
-            return RegistersRead::Refused(answer.stop());
-        };
-        let registers = Registers {
-            a: a as u8,
-            t: t as u8,
-        };
-        RegistersRead::Read(registers, c)
-    }
-
-    pub fn words(self, bytes: &[u8]) -> WordsRead
-        ensures { λ r. ⌜ r ≡ wordsAnswer (wordsOf (now (bytes .entry)) (self .at)) ⌝ }
-    {
-        let c = self;
-        let answer = c.number(bytes, 65535);
-        let Number::Read(x, c) = answer else {
-            return WordsRead::Refused(answer.stop());
-        };
-        let answer = c.number(bytes, 65535);
-        let Number::Read(y, c) = answer else {
-            return WordsRead::Refused(answer.stop());
-        };
-        let answer = c.number(bytes, 65535);
-        let Number::Read(u, c) = answer else {
-            return WordsRead::Refused(answer.stop());
-        };
-        let answer = c.number(bytes, 65535);
-        let Number::Read(s, c) = answer else {
-            return WordsRead::Refused(answer.stop());
-        };
-        let answer = c.number(bytes, 65535);
-        let Number::Read(p, c) = answer else {
-            return WordsRead::Refused(answer.stop());
-        };
-        let words = Words {
-            x: x as u16,
-            y: y as u16,
-            u: u as u16,
-            s: s as u16,
-            p: p as u16,
-        };
-        WordsRead::Read(words, c)
-    }
-
-    pub fn timing(self, bytes: &[u8]) -> TimingRead
-        ensures { λ r. ⌜ r ≡ timingAnswer (timingOf (now (bytes .entry)) (self .at)) ⌝ }
-    {
-        let c = self;
-        let answer = c.number(bytes, 4095);
-        let Number::Read(tm, c) = answer else {
-            return TimingRead::Refused(answer.stop());
-        };
-        let answer = c.number(bytes, 511);
-        let Number::Read(flags, c) = answer else {
-            return TimingRead::Refused(answer.stop());
-        };
-        let answer = c.number(bytes, 0xffff_ffff_ffff_ffff);
-        let Number::Read(states, c) = answer else {
-            return TimingRead::Refused(answer.stop());
-        };
-        let answer = c.number(bytes, 0xffff_ffff_ffff_ffff);
-        let Number::Read(previous, c) = answer else {
-            return TimingRead::Refused(answer.stop());
-        };
-        let answer = c.number(bytes, 0xffff_ffff_ffff_ffff);
-        let Number::Read(ticks, c) = answer else {
-            return TimingRead::Refused(answer.stop());
-        };
-        let timing = Timing {
-            tm: tm as u16,
-            flags: flags as u16,
-            timer_state: states,
-            step_previous_state: previous,
-            ticks: ticks,
-        };
-        TimingRead::Read(timing, c)
-    }
-
-    pub fn asked(self, bytes: &[u8]) -> AskedRead
-        ensures { λ r. ⌜ r ≡ askedAnswer (askedOf (now (bytes .entry)) (self .at)) ⌝ }
-    {
-        let c = self;
-        let answer = c.number(bytes, 255);
-        let Number::Read(keyboard, c) = answer else {
-            return AskedRead::Refused(answer.stop());
-        };
-        let answer = c.number(bytes, 0xffff_ffff);
-        let Number::Read(limit, c) = answer else {
-            return AskedRead::Refused(answer.stop());
-        };
-        let asked = Asked {
-            keyboard: keyboard as u8,
-            limit: limit as u32,
-        };
-        AskedRead::Read(asked, c)
+        let mut c = self;
+        let mut i = 0;
+        while i < 14 {
+            let answer = c.number(bytes, greatest(i));
+            let Number::Read(value, next) = answer else {
+                return NumbersRead::Refused(answer.stop());
+            };
+            values[i] = value;
+            c = next;
+            i += 1;
+        }
+        NumbersRead::Read(c)
     }
 
     // A page's length, then so many bytes.
     pub fn page(self, bytes: &[u8]) -> PageRead
-        ensures { λ r. ⌜ r ≡ pageAnswer (pageOf (now (bytes .entry)) (self .at)) ⌝ }
+        ensures { λ r. ⌜ pageOf (now (bytes .entry)) (self .at) ≡ pageField r ⌝ }
     {
         let c = self;
         let answer = c.number(bytes, 16384);
@@ -374,38 +237,16 @@ impl Cursor {
     }
 }
 
-// The record of the registers, and of TM, flags and counters. The flags' bits: halted, PU, PV, BF, DISP, IR0, IR1, IR2, timer reached.
-pub fn cpu_of(r: Registers, w: Words, t: Timing) -> Lh5801
-    ensures { λ m. ⌜ m ≡ cpuOf r w t ⌝ }
+// What the numbers and the pages' places say.
+fn parsed_of(values: &[u64; 14], page0: Page, page1: Page) -> Parsed
+    requires { ⌜ AllWithin greatestValues (now values) ⌝ }
+    ensures { λ r. ⌜ r ≡ partsOf (now (values .entry)) page0 page1 ⌝ }
 {
-    let flags = t.flags;
-    Lh5801 {
-        a: r.a,
-        t: r.t,
-        x: w.x,
-        y: w.y,
-        u: w.u,
-        s: w.s,
-        p: w.p,
-        is_halted: flags % 2 == 1,
-        pu: flags / 2 % 2 == 1,
-        pv: flags / 4 % 2 == 1,
-        bf: flags / 8 % 2 == 1,
-        disp: flags / 16 % 2 == 1,
-        tm: t.tm,
-        ir0: flags / 32 % 2 == 1,
-        ir1: flags / 64 % 2 == 1,
-        ir2: flags / 128 % 2 == 1,
-        is_timer_reached: flags / 256 % 2 == 1,
-        timer_state: t.timer_state,
-        step_previous_state: t.step_previous_state,
-        ticks: t.ticks,
-    }
-}
-
-fn parsed_of(cpu: Lh5801, asked: Asked, page0: Page, page1: Page) -> Parsed
-    ensures { λ r. ⌜ r ≡ partsOf cpu asked page0 page1 ⌝ }
-{
+    let cpu = record_numbers::record_of(values);
+    let asked = Asked {
+        keyboard: values[12] as u8,
+        limit: values[13] as u32,
+    };
     Parsed {
         cpu: cpu,
         asked: asked,
@@ -421,20 +262,9 @@ pub fn read_campaign(bytes: &[u8]) -> Campaign
     ensures { λ r. ⌜ r ≡ campaignAnswer (campaignOf (now (bytes .entry)) 0) ⌝ }
 {
     let c = Cursor { at: 0 };
-    let answer = c.registers(bytes);
-    let RegistersRead::Read(registers, c) = answer else {
-        return Campaign::Refused(answer.stop());
-    };
-    let answer = c.words(bytes);
-    let WordsRead::Read(words, c) = answer else {
-        return Campaign::Refused(answer.stop());
-    };
-    let answer = c.timing(bytes);
-    let TimingRead::Read(timing, c) = answer else {
-        return Campaign::Refused(answer.stop());
-    };
-    let answer = c.asked(bytes);
-    let AskedRead::Read(asked, c) = answer else {
+    let mut values = [0u64; 14];
+    let answer = c.numbers(bytes, &mut values);
+    let NumbersRead::Read(c) = answer else {
         return Campaign::Refused(answer.stop());
     };
     let answer = c.page(bytes);
@@ -449,6 +279,5 @@ pub fn read_campaign(bytes: &[u8]) -> Campaign
     if at < bytes.len() {
         return Campaign::Refused(Refusal::LeftOver(at));
     }
-    let cpu = cpu_of(registers, words, timing);
-    Campaign::Read(parsed_of(cpu, asked, page0, page1))
+    Campaign::Read(parsed_of(&values, page0, page1))
 }

@@ -3,12 +3,13 @@ ghost use mathlib.Core.Path.{_≡_};
 ghost use mathlib.Core.Bool.{true};
 ghost use Prim.Native.Nat.{_≤_, _<_};
 ghost use Rattle.pages.specs.Contract.{atEntry, atExit};
-ghost use Rattle.execution.specs.Due.{dueOf};
-ghost use Rattle.run.specs.Entry.{endNumber, endByte};
+ghost use Rattle.execution.specs.Code.Due.{dueOf};
+ghost use Rattle.run.specs.Acceptance.{endNumber, endByte};
 ghost use Rattle.run.specs.Run.{runOf, callOf};
 ghost use Rattle.run.specs.declared.Ahead.the-variants.{Open, Stops};
-ghost use Rattle.run.specs.Leads.{led, unmovedOf, Leads};
-ghost use Rattle.run.specs.Answers.{Answers, answer, statesBetween};
+ghost use Rattle.run.specs.Code.Leads.{led, unmovedOf, Leads};
+ghost use Rattle.run.specs.Answers.{Answers};
+ghost use Rattle.run.specs.Code.States.{answerOf, statesBetween};
 use arithmetic::record::Lh5801;
 use execution::Executed;
 use execution::Inputs;
@@ -16,6 +17,8 @@ use execution::Outcome;
 
 pub mod campaign_file;
 pub mod line;
+pub mod parts;
+pub mod record_numbers;
 pub mod report;
 
 // What a call is given besides the record and the pages.
@@ -24,7 +27,7 @@ pub struct Settings {
     pub limit: u32,
 }
 
-// Why a call ended: all its steps done, refused at entry, or a step's stop.
+// Why a call ended: all its steps done, not accepted, or a step's stop.
 pub enum End {
     AllSteps,
     Page0Length,
@@ -44,7 +47,7 @@ pub struct Answer {
 
 // The given record, and no step.
 fn refused(cpu: Lh5801, end: End) -> Answer
-    ensures { λ r. ⌜ r ≡ answer end 0 0 cpu ⌝ }
+    ensures { λ r. ⌜ r ≡ answerOf end 0 0 cpu ⌝ }
 {
     Answer {
         end: end,
@@ -56,7 +59,7 @@ fn refused(cpu: Lh5801, end: End) -> Answer
 
 // The record after the completed steps; their states are what the ticks moved on by since first.
 fn answered(cpu: Lh5801, first: u64, steps: u32, end: End) -> Answer
-    ensures { λ r. ⌜ r ≡ answer end steps (statesBetween first (cpu .ticks)) cpu ⌝ }
+    ensures { λ r. ⌜ r ≡ answerOf end steps (statesBetween first (cpu .ticks)) cpu ⌝ }
 {
     let states = std::num::wrapping_sub_u64(cpu.ticks, first);
     Answer {
@@ -81,7 +84,7 @@ pub struct Led {
 }
 
 // So many steps are completed, and any step may come.
-fn completed(steps: u32, cpu: Lh5801) -> Led
+fn open_after(steps: u32, cpu: Lh5801) -> Led
     ensures { λ r. ⌜ r ≡ led steps cpu Open ⌝ }
 {
     Led {
@@ -92,7 +95,7 @@ fn completed(steps: u32, cpu: Lh5801) -> Led
 }
 
 // So many steps are completed, and the next stops.
-fn stopped(steps: u32, cpu: Lh5801, stop: execution::Stop) -> Led
+fn stops_after(steps: u32, cpu: Lh5801, stop: execution::Stop) -> Led
     ensures { λ r. ⌜ r ≡ led steps cpu (Stops stop) ⌝ }
 {
     Led {
@@ -132,18 +135,18 @@ fn instructions(
                 current = next;
                 steps = steps + 1;
                 if limit <= steps {
-                    return completed(steps, current);
+                    return open_after(steps, current);
                 }
             }
             Executed::Completed(next) => {
-                return completed(steps + 1, next);
+                return open_after(steps + 1, next);
             }
             Executed::Stopped(stop) => {
                 // The step that stops is undone whole: timer reached has not moved.
                 if steps == done {
-                    return stopped(done, unmoved(current, cpu), stop);
+                    return stops_after(done, unmoved(current, cpu), stop);
                 }
-                return stopped(steps, current, stop);
+                return stops_after(steps, current, stop);
             }
         }
     }
@@ -166,8 +169,8 @@ fn advance(
     }
     let outcome = execution::step_cpu(cpu, page0, page1, inputs);
     match outcome {
-        Outcome::Completed(next) => completed(done + 1, next),
-        Outcome::Stopped(stop) => stopped(done, cpu, stop),
+        Outcome::Completed(next) => open_after(done + 1, next),
+        Outcome::Stopped(stop) => stops_after(done, cpu, stop),
     }
 }
 
@@ -194,7 +197,7 @@ fn steps_of(cpu: Lh5801, page0: &mut [u8], page1: &mut [u8], inputs: Inputs, lim
     answered(current, first, steps, End::AllSteps)
 }
 
-// The run call: refused at entry, or its steps.
+// The run call: not accepted, or its steps.
 pub fn run(cpu: Lh5801, page0: &mut [u8], page1: &mut [u8], settings: Settings) -> Answer
     ensures { λ r. ⌜ Answers (callOf settings cpu (atEntry page0 page1)) r (atExit page0 page1) ⌝ }
 {

@@ -6,9 +6,9 @@ ghost use mathlib.Core.Path.{_≡_};
 ghost use mathlib.Core.List.{[], _∷_, _++_};
 ghost use Prim.Native.Nat.{_+_, _<_, _≤_};
 ghost use lib.ListN.{length};
-ghost use Rattle.arithmetic.specs.Flags.{bitOf};
-ghost use Rattle.run.specs.CampaignFile.{flagsOf};
-ghost use Rattle.run.specs.Line.{Put, Printed, space, hexDigit, decimalOf, hexOf, spaced, joined, countFields, registerFields, counterFields, lineOf, refusalLineOf};
+ghost use Rattle.run.specs.Line.{Printed, space, hexDigit, decimalOf, hexOf, joined, countFields, registerFields, counterFields, lineOf, refusalLineOf};
+ghost use Rattle.run.specs.Code.LineParts.{Put, spaced};
+use crate::record_numbers;
 use arithmetic::record::Lh5801;
 
 const SPACE: u8 = 32;
@@ -80,21 +80,6 @@ fn hex(buffer: &mut [u8], at: usize, value: u16, digits: u8) -> usize
     put(buffer, next, SPACE)
 }
 
-fn bit(flag: bool) -> u16
-    ensures { λ r. ⌜ (r ≡ bitOf flag) × (r ≤ 1) ⌝ }
-{
-    if flag { 1 } else { 0 }
-}
-
-// The flags as one number.
-pub fn flags_of(cpu: Lh5801) -> u16
-    ensures { λ r. ⌜ r ≡ flagsOf cpu ⌝ }
-{
-    let low = bit(cpu.is_halted) + 2 * bit(cpu.pu) + 4 * bit(cpu.pv) + 8 * bit(cpu.bf);
-    let middle = low + 16 * bit(cpu.disp) + 32 * bit(cpu.ir0) + 64 * bit(cpu.ir1);
-    middle + 128 * bit(cpu.ir2) + 256 * bit(cpu.is_timer_reached)
-}
-
 // Number, steps and states.
 fn put_counts(buffer: &mut [u8], number: u8, steps: u32, states: u64) -> usize
     requires { ⌜ 63 ≤ length (now buffer) ⌝ }
@@ -118,7 +103,7 @@ fn put_registers(buffer: &mut [u8], at: usize, cpu: Lh5801) -> usize
     let next = hex(buffer, next, cpu.s, 4);
     let next = hex(buffer, next, cpu.p, 4);
     let next = hex(buffer, next, cpu.tm, 3);
-    let flags = flags_of(cpu);
+    let flags = record_numbers::flags_of(cpu);
     hex(buffer, next, flags, 3)
 }
 

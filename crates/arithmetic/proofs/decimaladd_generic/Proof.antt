@@ -1,10 +1,10 @@
-use Rattle.arithmetic.specs.Decimal.{decimalOf}
+use Rattle.arithmetic.specs.Decimal.{decimalSumOf}
 use borrow.Author.Needs.{needs}
 use Rattle.arithmetic.proofs.decimaladd_generic.Statement.{statement}
 use Rattle.arithmetic.proofs.decimaladd_generic.Tie as tie
 
 returns : tie.Need-returns
-unfolding decimalOf
+unfolding decimalSumOf
 returns c = rw (c .wrapping-add-u8 .ensures, c .before .adjustment .ensures, c .before .before .get-flag2 .ensures, c .before .before .before .get-flag .ensures, c .before .before .before .before .add-generic .ensures)
 
 pub decimaladd-generic-spec : {M : Type 1} → statement M

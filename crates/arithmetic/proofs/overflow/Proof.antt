@@ -8,8 +8,8 @@ use Rattle.arithmetic.proofs.overflow.Tie as tie
 
 returns : tie.Need-returns
 returns c =
-    let told = both-differ (top-bit (c .args .left) (search needs)) (top-bit (c .args .right) (search needs)) (top-bit (c .args .result) (search needs)) in
-    (told, subst (λ (n : ℕ). n ≤ 1) (sym told) (bit-small (overflowOf (c .args .left) (c .args .right) (c .args .result))))
+    let same = both-differ (top-bit (c .args .left) (search needs)) (top-bit (c .args .right) (search needs)) (top-bit (c .args .result) (search needs)) in
+    (same, subst (λ (n : ℕ). n ≤ 1) (sym same) (bit-small (overflowOf (c .args .left) (c .args .right) (c .args .result))))
 
 pub overflow-spec : {M : Type 1} → statement M
 overflow-spec = tie.close (tie.spec returns)

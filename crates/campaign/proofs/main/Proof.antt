@@ -1,6 +1,6 @@
 use mathlib.Core.Path.{sym}
 use lib.Seq.{length-take-le}
-use Rattle.run.proofs.Parts.{printed-within}
+use Rattle.run.proofs.Reading.{printed-within}
 use borrow.Author.Needs.{needs}
 use Rattle.campaign.proofs.main.Statement.{statement}
 use Rattle.campaign.proofs.main.Tie as tie

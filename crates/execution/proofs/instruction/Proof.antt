@@ -1,22 +1,17 @@
-use native.Mathlib.Omega.{arith}
 use mathlib.Core.Bool.{true, false}
 use mathlib.Core.Path.{_∙_, ap, sym}
-use Rattle.arithmetic.specs.Record.{with-p, with-timer-state, with-ticks}
-use Rattle.pages.specs.Timer.{addStateOf, timerPartOf}
-use Rattle.execution.proofs.Counters.{executed-small}
+use Rattle.pages.specs.Timer.{timerPartOf}
 use Rattle.execution.proofs.Order.{step-due, instruction-settled, instruction-other, instruction-unlisted}
-use Rattle.execution.proofs.DueAgain.{again}
+use Rattle.execution.proofs.DueAgain.{again, executed-small}
 use borrow.Author.Needs.{needs}
 use Rattle.execution.proofs.instruction.Statement.{statement}
 use Rattle.execution.proofs.instruction.Tie as tie
 
 timer-part-requires : tie.Need-timer-part-requires
-unfolding addStateOf with-p with-timer-state with-ticks
-timer-part-requires c κs = rw (c .add-state .ensures) (executed-small _ _ _ (rw (c .before .before .before .before .before .before .before .before .before .before .with-p .ensures) (c .before .before .before .before .before .before .before .before .before .before .before .before .before .before .before .before .before .before .before .before .pre .0)) (c .before .before .before .before .before .before .before .execute .ensures))
+timer-part-requires c κs = executed-small (c .before .before .before .before .before .before .before .before .before .before .before .before .before .before .before .before .before .before .before .before .args .cpu) _ (c .before .before .before .before .before .before .before .before .before .before .before .before .before .before .before .before .before .before .before .before .args .inputs) _ _ (c .before .before .before .before .before .before .before .before .before .before .before .before .before .before .before .before .before .before .before .before .pre .0) (rw (c .before .before .before .before .before .before .before .before .before .before .with-p .ensures) at (c .before .before .before .before .before .before .before .execute .ensures)) (c .add-state .ensures)
 
 timer-part-requires-2 : tie.Need-timer-part-requires-2
-unfolding addStateOf with-p with-timer-state with-ticks
-timer-part-requires-2 c κs = rw (c .add-state2 .ensures) (executed-small _ _ _ (rw (c .before .before .before .before .before .before .before .before .before .before .with-p .ensures) (c .before .before .before .before .before .before .before .before .before .before .before .before .before .before .before .before .before .before .before .before .pre .0)) (c .before .before .before .before .before .before .before .execute .ensures))
+timer-part-requires-2 c κs = executed-small (c .before .before .before .before .before .before .before .before .before .before .before .before .before .before .before .before .before .before .before .before .args .cpu) _ (c .before .before .before .before .before .before .before .before .before .before .before .before .before .before .before .before .before .before .before .before .args .inputs) _ _ (c .before .before .before .before .before .before .before .before .before .before .before .before .before .before .before .before .before .before .before .before .pre .0) (rw (c .before .before .before .before .before .before .before .before .before .before .with-p .ensures) at (c .before .before .before .before .before .before .before .execute .ensures)) (c .add-state2 .ensures)
 
 returns : tie.Need-returns
 returns c = (
@@ -27,7 +22,7 @@ returns c = (
 returns-2 : tie.Need-returns-2
 returns-2 c = (
   rw (step-due (c .before .before .before .before .before .before .before .before .before .before .before .before .before .before .before .before .before .before .before .before .before .before .args .cpu) (c .before .before .before .before .before .before .before .before .before .before .before .before .before .before .before .before .before .before .before .before .before .before .args .inputs) (c .before .before .before .before .before .before .before .before .before .before .before .before .before .before .before .before .before .before .before .before .before .before .pre .1)) (instruction-settled (c .before .before .before .before .before .before .before .before .before .before .before .before .before .before .before .before .before .before .before .before .before .before .args .cpu) (c .before .before .before .before .before .before .before .before .before .before .before .before .before .before .before .before .before .before .before .before .before .before .args .inputs) false (c .before .before .before .before .before .before .before .before .before .before .before .before .before .before .before .before .before .fetch .ensures) (sym (c .before .before .before .before .before .before .before .before .before .before .before .before .before .before .before .before .decode .ensures) ∙ c .before .before .before .before .before .before .before .before .before .before .before .before .before .before .i .given .1) (rw (c .before .before .before .before .before .before .before .before .before .before .before .before .with-p .ensures) at (c .before .before .before .before .before .before .before .before .before .execute .ensures)) (c .before .timer-part .ensures ∙ ap timerPartOf (c .before .before .add-state .ensures)) (sym (c .before .before .before .before .settled .ensures) ∙ c .before .before .before .if1 .taken) (c .if2 .left)),
-  again (c .before .before .before .before .before .before .before .before .before .before .before .before .before .before .before .before .before .before .before .before .before .before .args .cpu) _ (c .before .before .before .before .before .before .before .before .before .before .before .before .before .before .before .before .before .before .before .before .before .before .args .inputs) _ _ (omega (arith, c .before .before .before .before .before .before .before .before .before .before .before .before .before .before .before .before .before .before .before .before .before .before .good)) (sym (c .before .before .before .before .settled .ensures) ∙ c .before .before .before .if1 .taken) (c .before .before .before .before .before .before .before .before .before .before .before .before .before .before .before .before .before .before .before .before .before .before .pre .1) (rw (c .before .before .before .before .before .before .before .before .before .before .before .before .with-p .ensures) at (c .before .before .before .before .before .before .before .before .before .execute .ensures)) (c .before .before .add-state .ensures) (c .before .timer-part .ensures) (c .if2 .left),
+  again (c .before .before .before .before .before .before .before .before .before .before .before .before .before .before .before .before .before .before .before .before .before .before .args .cpu) _ (c .before .before .before .before .before .before .before .before .before .before .before .before .before .before .before .before .before .before .before .before .before .before .args .inputs) _ _ (sym (c .before .before .before .before .settled .ensures) ∙ c .before .before .before .if1 .taken) (c .before .before .before .before .before .before .before .before .before .before .before .before .before .before .before .before .before .before .before .before .before .before .pre .1) (rw (c .before .before .before .before .before .before .before .before .before .before .before .before .with-p .ensures) at (c .before .before .before .before .before .before .before .before .before .execute .ensures)) (c .before .before .add-state .ensures) (c .before .timer-part .ensures) (c .if2 .left),
 )
 
 returns-3 : tie.Need-returns-3

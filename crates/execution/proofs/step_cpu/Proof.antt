@@ -4,11 +4,11 @@ use borrow.Author.Needs.{needs}
 use Rattle.execution.proofs.step_cpu.Statement.{statement}
 use Rattle.execution.proofs.step_cpu.Tie as tie
 
-held-requires : tie.Need-held-requires
-held-requires c κs = rw (c .before .before .reached .ensures) (rw (reached-tm (c .before .before .before .before .before .before .args .cpu)) (c .before .before .before .before .before .before .pre .0), reached-bf (c .before .before .before .before .before .before .args .cpu) ∙ c .before .before .before .if1 .taken, reached-clear (c .before .before .before .before .before .before .args .cpu), reached-due (c .before .before .before .before .before .before .args .cpu) ∙ c .before .before .before .before .before .before .pre .1)
+powered-step-requires : tie.Need-powered-step-requires
+powered-step-requires c κs = rw (c .before .before .reached .ensures) (rw (reached-tm (c .before .before .before .before .before .before .args .cpu)) (c .before .before .before .before .before .before .pre .0), reached-bf (c .before .before .before .before .before .before .args .cpu) ∙ c .before .before .before .if1 .taken, reached-clear (c .before .before .before .before .before .before .args .cpu), reached-due (c .before .before .before .before .before .before .args .cpu) ∙ c .before .before .before .before .before .before .pre .1)
 
 returns : tie.Need-returns
-returns c = rw (← step-reached (c .before .before .before .before .before .before .before .before .before .before .before .args .cpu) (c .before .before .before .before .before .before .before .before .before .before .before .args .inputs) (c .before .before .before .before .before .before .before .before .if1 .taken)) (rw (c .before .before .before .before .before .before .before .reached .ensures) at (c .before .before .before .before .held .ensures))
+returns c = rw (← step-reached (c .before .before .before .before .before .before .before .before .before .before .before .args .cpu) (c .before .before .before .before .before .before .before .before .before .before .before .args .inputs) (c .before .before .before .before .before .before .before .before .if1 .taken)) (rw (c .before .before .before .before .before .before .before .reached .ensures) at (c .before .before .before .before .powered-step .ensures))
 
 returns-2 : tie.Need-returns-2
 returns-2 c = step-off (c .before .before .before .before .args .cpu) (c .before .before .before .before .args .inputs) (c .before .if1 .left) (c .add-state .ensures)
@@ -16,4 +16,4 @@ returns-2 c = step-off (c .before .before .before .before .args .cpu) (c .before
 pub step-cpu-spec : {M : Type 1} → statement M
 step-cpu-spec =
     tie.close
-    (tie.spec (λ c κs. search needs) held-requires (λ c κs. search needs) (λ c. search needs) (λ c. search needs) returns returns-2)
+    (tie.spec (λ c κs. search needs) powered-step-requires (λ c κs. search needs) (λ c. search needs) (λ c. search needs) returns returns-2)

@@ -1,5 +1,5 @@
 use mathlib.Core.Path.{sym}
-use Rattle.execution.proofs.Tests.{cond-true, cond-false}
+use Rattle.execution.proofs.Choices.{cond-true, cond-false}
 use Rattle.execution.proofs.vector_of.Statement.{statement}
 use Rattle.execution.proofs.vector_of.Tie as tie
 

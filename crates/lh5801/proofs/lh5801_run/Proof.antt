@@ -1,13 +1,30 @@
+-- `lh5801::lh5801_run` meets its contract: the run call of the record that the words give, and its answer's words.
+-- Assumes nothing.
 use mathlib.Core.Path.{ap, _∙_}
-use Rattle.lh5801.specs.Words.{wordsOf}
+use native.Mathlib.Omega.{arith}
+use Rattle.lh5801.specs.Words.{takenOf, wordsOf}
 use borrow.Author.Needs.{needs}
+use Rattle.lh5801.proofs.Words.{taken-within, continues}
 use Rattle.lh5801.proofs.lh5801_run.Statement.{statement}
 use Rattle.lh5801.proofs.lh5801_run.Tie as tie
 
+record-of-requires : tie.Need-record-of-requires
+unfolding takenOf
+record-of-requires c κs = rw (c .before .taken .ensures) (omega arith, taken-within (c .before .before .before .before .before .args .words .now))
+
 returns : tie.Need-returns
-returns c = let a = rw (c .before .before .before .before .before .before .before .before .before .record-of .ensures, c .before .before .before .before .before .before .before .before .of-keyboard .ensures) at (c .before .before .before .before .before .run .ensures) in record { told = c .words-of .ensures ∙ ap wordsOf (a .told); pages = a .pages }
+returns c =
+    let a = rw (c .before .before .before .before .before .before .before .before .before .record-of .ensures, c .before .before .before .before .before .before .before .before .before .before .before .taken .ensures, c .before .before .before .before .before .before .before .before .of-keyboard .ensures) at (c .before .before .before .before .before .run .ensures) in
+    let w = c .words-of .ensures in
+    record {
+      words-are = w .0 ∙ ap wordsOf (a .answer);
+      within = rw (w .0) (w .1);
+      continues = rw (w .0) (continues (c .before .before .before .before .before .run .result) (w .1)) ∙ ap (λ r. r .cpu) (a .answer);
+      pages = a .pages;
+    }
 
 pub lh5801-run-spec : {M : Type 1} → statement M
 lh5801-run-spec =
     tie.close
-    (tie.spec (λ c κs. search needs) (λ c κs. search needs) (λ c κs. search needs) (λ c κs. search needs) (λ c. search needs) (λ c. search needs) returns)
+    (tie.spec (λ c κs. search needs) (λ c. search needs) record-of-requires (λ c κs. search needs) (λ c κs. search needs) (λ c κs. search needs)
+    (λ c. search needs) (λ c. search needs) returns)

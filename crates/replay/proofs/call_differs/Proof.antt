@@ -1,16 +1,16 @@
 use Rattle.replay.specs.Bytes.{prepareOf}
-use Rattle.replay.specs.Calls.{blank, outcomeOf, callDiffersOf}
-use Rattle.replay.proofs.Told.{call-told}
+use Rattle.replay.specs.Calls.{blank, callResultOf, callDiffersOf}
+use Rattle.replay.proofs.Results.{call-result}
 use borrow.Author.Needs.{needs}
 use Rattle.replay.proofs.call_differs.Statement.{statement}
 use Rattle.replay.proofs.call_differs.Tie as tie
 
 returns : tie.Need-returns
-unfolding callDiffersOf outcomeOf
+unfolding callDiffersOf callResultOf
 returns c =
     let start = c .before .before .before .before .before .before .before .before .before .before .before .before .before .before .before .before .before .before .before .before .before .before .before .before .before in
     let a = start .args in (
-      call-told {q0 = prepareOf blank 0 (a .len0) (a .rule) (a .file .now) (a .c .«page0_at») (a .c .«page0_len») (a .sets .now)} {q1 = prepareOf blank 1 (a .len1) (a .rule) (a .file .now) (a .c .«page1_at») (a .c .«page1_len») (a .sets .now)} (a .want .now) (a .want-sums) (start .pre .0) (start .pre .1) (c .before .before .before .before .before .before .before .before .before .before .before .before .before .before .before .before .before .before .before .before .prepare .ensures) (c .before .before .before .before .before .before .before .before .before .before .before .before .before .before .before .before .before .prepare2 .ensures) (rw (c .before .before .before .before .before .before .before .before .before .before .before .before .before .settings-of .ensures) at (c .before .before .before .before .before .before .before .before .before .before .run-pages .ensures)) (c .before .before .before .before .before .before .before .before .told-line .ensures) (c .before .before .before .before .before .before .sums-page .ensures) (c .before .before .before .before .sums-page2 .ensures) (c .before .before .line-differs .ensures .0) (c .before .sums-differ .ensures) (c .either .ensures .0),
+      call-result {q0 = prepareOf blank 0 (a .len0) (a .rule) (a .file .now) (a .c .«page0_at») (a .c .«page0_len») (a .sets .now)} {q1 = prepareOf blank 1 (a .len1) (a .rule) (a .file .now) (a .c .«page1_at») (a .c .«page1_len») (a .sets .now)} (a .want .now) (a .want-sums) (start .pre .0) (start .pre .1) (c .before .before .before .before .before .before .before .before .before .before .before .before .before .before .before .before .before .before .before .before .prepare .ensures) (c .before .before .before .before .before .before .before .before .before .before .before .before .before .before .before .before .before .prepare2 .ensures) (rw (c .before .before .before .before .before .before .before .before .before .before .before .before .before .settings-of .ensures) at (c .before .before .before .before .before .before .before .before .before .before .run-pages .ensures)) (c .before .before .before .before .before .before .before .before .answer-line .ensures) (c .before .before .before .before .before .before .sums-page .ensures) (c .before .before .before .before .sums-page2 .ensures) (c .before .before .line-differs .ensures .0) (c .before .sums-differ .ensures) (c .either .ensures .0),
       c .either .ensures .1,
     )
 

@@ -1,7 +1,7 @@
 use native.Mathlib.Omega.{arith}
 use borrow.Author.Tests.{lt-ltb, le-ltb}
 use Rattle.run.specs.CampaignFile.{campaignOf}
-use Rattle.run.proofs.Parts.{told-read, told-refused}
+use Rattle.run.proofs.Reading.{file-read, file-refused}
 use Rattle.replay.specs.Calls.{differsOf}
 use borrow.Author.Needs.{needs}
 use Rattle.replay.proofs.differs.Statement.{statement}
@@ -18,7 +18,7 @@ returns-2 c = (rw (le-ltb _ _ (c .before .if1 .left), lt-ltb _ _ (c .if2 .taken)
 returns-3 : tie.Need-returns-3
 unfolding differsOf
 returns-3 c = (
-  rw (le-ltb _ _ (c .before .before .before .before .before .before .if1 .left), le-ltb _ _ (c .before .before .before .before .before .if2 .left), told-read (campaignOf (c .before .before .before .before .before .before .before .before .before .before .args .file .now) 0) (c .before .before .before .before .read-campaign .ensures) (c .before .before .read .given .1) .is)
+  rw (le-ltb _ _ (c .before .before .before .before .before .before .if1 .left), le-ltb _ _ (c .before .before .before .before .before .if2 .left), file-read (campaignOf (c .before .before .before .before .before .before .before .before .before .before .args .file .now) 0) (c .before .before .before .before .read-campaign .ensures) (c .before .before .read .given .1) .is)
       (c .call-differs .ensures .0),
   c .call-differs .ensures .1,
 )
@@ -26,7 +26,7 @@ returns-3 c = (
 returns-4 : tie.Need-returns-4
 unfolding differsOf
 returns-4 c = (
-  rw (le-ltb _ _ (c .before .before .before .before .before .before .if1 .left), le-ltb _ _ (c .before .before .before .before .before .if2 .left), told-refused (campaignOf (c .before .before .before .before .before .before .before .before .before .before .args .file .now) 0) (c .before .before .before .before .read-campaign .ensures) (c .before .before .read2 .given .1))
+  rw (le-ltb _ _ (c .before .before .before .before .before .before .if1 .left), le-ltb _ _ (c .before .before .before .before .before .if2 .left), file-refused (campaignOf (c .before .before .before .before .before .before .before .before .before .before .args .file .now) 0) (c .before .before .before .before .read-campaign .ensures) (c .before .before .read2 .given .1))
       (c .refusal-differs .ensures .0),
   c .refusal-differs .ensures .1,
 )

@@ -20,7 +20,7 @@ loop-again c = (
   search needs,
   search needs,
   search needs,
-  one-counted (c .before .before .loop-test .taken) (c .before .entry .ensures .1) (c .before .entry .ensures .0) (c .before .before .before .loop .inv .3),
+  one-counted (c .before .before .loop-test .taken) (c .before .item .ensures .1) (c .before .item .ensures .0) (c .before .before .before .loop .inv .3),
 )
 
 returns : tie.Need-returns Inv-loop μ-loop

@@ -3,8 +3,7 @@ use mathlib.Core.Path.{_≡_, refl}
 use native.Mathlib.Omega.{arith}
 use lib.ListN.{take}
 use Rattle.replay.specs.Numbers.{sumsOf}
-use Rattle.replay.proofs.Summed.{one-more}
-use Rattle.run.proofs.Parts.{end}
+use Rattle.replay.proofs.Summed.{one-more, end}
 use borrow.Author.Needs.{needs}
 use Rattle.replay.proofs.sums_over.Statement.{statement}
 use Rattle.replay.proofs.sums_over.Tie as tie

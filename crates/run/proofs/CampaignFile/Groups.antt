@@ -12,7 +12,7 @@ use lib.ListN.{length, drop, getD, drop-of-length-le}
 use lib.Seq.{drop-cons}
 use lib.Dec.{leb, ltb, eqb, lit<}
 use borrow.Author.Tests.{ltb-true, ltb-false, le-leb, lt-leb, eq-eqb, ne-eqb}
-use Rattle.run.specs.CampaignFile.{Groups, ends, over, whole, group, groups, refused, judged, numberOf}
+use Rattle.run.specs.CampaignFile.{Groups, ends, over, whole, group, groups, refused, checkedOf, numberOf}
 use Rattle.run.specs.declared.campaign_file.Refusal.the-variants.{Ends, Unfit}
 
 pub lt-or-ge : (a b : ℕ) → (a < b) ⊎ (b ≤ a)
@@ -58,16 +58,12 @@ pub passed-none : (bytes : List ℕ) (begin : ℕ) → Passed bytes begin begin 
 passed-none bytes begin =
     record { count = 0; at-is = omega arith; few = omega arith; weight-is = refl; below = omega arith; groups-are = after-none (groups 10 (drop begin bytes)) }
 
--- nine groups weigh less than 2 ^ 63, and eight less than 2 ^ 56
-pub weight-small : (count weight : ℕ) → weight ≡ 128 ^ count → count < 9 → weight ≤ 2 ^ 56
+-- nine groups weigh at most 2 ^ 63, and eight 2 ^ 56
+weight-small : (count weight : ℕ) → weight ≡ 128 ^ count → count < 9 → weight ≤ 2 ^ 56
 weight-small count weight e h = rw e (pow-le-pow-right {n = 128} (lit< tt) {i = count} {j = 8} (omega arith))
 
 pub nine-weigh : (count weight : ℕ) → weight ≡ 128 ^ count → count ≤ 9 → weight ≤ 2 ^ 63
 nine-weigh count weight e h = rw e (pow-le-pow-right {n = 128} (lit< tt) {i = count} {j = 9} h)
-
--- a product with a group of seven bits
-pub group-small : (weight group : ℕ) → group < 128 → weight * group ≤ weight * 127
-group-small weight group h = mul-le-mul-left weight (omega arith)
 
 pub one-less : (k : ℕ) → k ≤ 9 → 10 - k ≡ suc (9 - k)
 one-less k h = omega arith
@@ -90,6 +86,11 @@ module _ (bytes : List ℕ) (begin at weight value : ℕ) (p : Passed bytes begi
       ≡ cond (leb 128 (getD bytes at 0)) (group (getD bytes at 0) (groups (9 - p .count) (drop (suc at) bytes))) (whole (getD bytes at 0) 1 (getD bytes at 0))
   there h = rw (one-less (p .count) (p .few), drop-cons bytes at 0 h)
 
+  -- up to the ninth group its product and the sum fit
+  pub passed-fits : at - begin < 9 → (group : ℕ) → group ≤ 128 → value + weight * group < 2 ^ 64
+  passed-fits h group g =
+      omega (arith, weight-small (p .count) weight (p .weight-is) (omega (arith, p .at-is)), mul-le-mul-left weight g, p .below)
+
   -- where there is none
   pub passed-end : length bytes ≤ at → groups 10 (drop begin bytes) ≡ ends
   passed-end h = p .groups-are ∙ rw (one-less (p .count) (p .few), drop-of-length-le bytes h)
@@ -104,7 +105,8 @@ module _ (bytes : List ℕ) (begin at weight value : ℕ) (p : Passed bytes begi
     weight-is = ap (λ (w : ℕ). w * 128) (p .weight-is) ∙ sym (pow-suc 128 (p .count));
     below =
         let b = getD bytes at 0 in
-        omega (arith, group-small weight (b % 128) (omega arith), p .below);
+        let product : weight * (b % 128) ≤ weight * 127 = mul-le-mul-left weight (omega arith) in
+        omega (arith, p .below);
     groups-are =
         p .groups-are ∙ rw (there h, le-leb 128 (getD bytes at 0) g, add-one, ten-less (p .count))
         (after-group value weight (p .count) (getD bytes at 0) (groups (9 - p .count) (drop (suc at) bytes)));
@@ -123,7 +125,7 @@ module _ (bytes : List ℕ) (begin at weight value : ℕ) (p : Passed bytes begi
 
   pub number-last : (greatest : ℕ) → at < length bytes → getD bytes at 0 < 128
       → numberOf greatest bytes begin
-      ≡ judged begin (at + 1) (value + weight * getD bytes at 0) (eqb at begin || not (eqb (getD bytes at 0) 0)) greatest
+      ≡ checkedOf begin (at + 1) (value + weight * getD bytes at 0) (eqb at begin || not (eqb (getD bytes at 0) 0)) greatest
   unfolding numberOf
   number-last greatest h g =
       let place : begin + (1 + p .count) ≡ at + 1 = omega (arith, p .at-is) in
@@ -136,11 +138,11 @@ module _ (bytes : List ℕ) (begin at weight value : ℕ) (p : Passed bytes begi
       p .weight-is ∙ ap (λ (k : ℕ). 128 ^ k) c
 
   pub number-tenth-one : (greatest : ℕ) → 9 ≤ p .count → at < length bytes → getD bytes at 0 ≡ 1
-      → numberOf greatest bytes begin ≡ judged begin (at + 1) (value + 2 ^ 63) true greatest
+      → numberOf greatest bytes begin ≡ checkedOf begin (at + 1) (value + 2 ^ 63) true greatest
   number-tenth-one greatest nine h one =
       let sum : value + weight * getD bytes at 0 ≡ value + 2 ^ 63 = rw (one, tenth-weighs nine) in
       number-last greatest h (omega (arith, one))
-      ∙ ap (λ (v : ℕ). judged begin (at + 1) v (eqb at begin || not (eqb (getD bytes at 0) 0)) greatest) sum
+      ∙ ap (λ (v : ℕ). checkedOf begin (at + 1) v (eqb at begin || not (eqb (getD bytes at 0) 0)) greatest) sum
       ∙ rw (one, ne-eqb at begin (omega (arith, p .at-is)))
 
   pub number-tenth-not : (greatest : ℕ) → 9 ≤ p .count → at < length bytes → greatest < 2 ^ 64 → (getD bytes at 0 ≡ 1 → ⊥)

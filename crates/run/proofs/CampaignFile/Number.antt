@@ -15,6 +15,9 @@ use Rattle.run.specs.declared.campaign_file.Refusal.the-variants.{Ends, 
 pub never : {A B : Type 0} {a : A} {n : ℕ} {f : Field A} (r : _) → f ≡ read a n → f ≡ refused r → B
 never {A} {B} {a} {n} {f} r p q = absurd (let z : _≡_ {A = ℕ} 0 1 = cc in omega arith)
 
+pub read-same : {A : Type 0} {a b : A} {m n : ℕ} → read a m ≡ read b n → (a ≡ b) × (m ≡ n)
+read-same e = (cc, cc)
+
 pub both-true : (a b : Bool) → a && b ≡ true → (a ≡ true) × (b ≡ true)
 both-true true b e = (refl, e)
 both-true false b e = (e, absurd (let z : _≡_ {A = ℕ} 0 1 = cc in omega arith))

@@ -1,19 +1,18 @@
 -- A file is turned down only for a reason of `Stopped`, at the offset that is told.
 -- Assumes nothing.
-use Prim.Native.Nat.{ℕ, zero, suc, _+_, _-_, _^_, _<_, _≤_}
+use Prim.Native.Nat.{ℕ, zero, suc, _+_, _-_, _<_, _≤_}
 use mathlib.Core.Path.{_≡_, refl, ap, sym, subst, _∙_}
 use mathlib.Core.Bool.{Bool, true, false, cond, not, _&&_, _||_}
-use mathlib.Core.List.{List, [], _∷_}
+use mathlib.Core.List.{List, [], _∷_, _++_, map}
 use mathlib.Core.Logic.{_⊎_, inl, inr}
 use native.Mathlib.Omega.{arith}
-use native.Mathlib.Nat.{zero-add, suc-add}
-use lib.ListN.{length, drop, getD, length-drop, List·getD-eq-default}
+use lib.ListN.{length, drop, getD, length-drop}
 use lib.Seq.{getD-drop}
 use lib.Dec.{leb, ltb, eqb}
 use borrow.Author.Tests.{ltb-true, ltb-false, leb-true, leb-false, eqb-true, eqb-false, lt-ltb, le-ltb, le-leb, lt-leb, ne-eqb}
-use Rattle.run.specs.CampaignFile.{Groups, ends, over, whole, group, groups, Field, read, refused, Reader, onward, _>>=_, given, shortestOf, numberFrom, numberOf}
-use Rattle.run.specs.CampaignFile.{registersOf, wordsOf, timingOf, askedOf, bytesOf, pageOf, ended, campaignOf}
-use Rattle.run.specs.CampaignRefusals.{Kind, number, page, none, fields, fieldAt, Reached, start, after-number, after-page, EndsInside, OverTen, UnfitAt, over-ten, not-shortest, above, Stopped, ends-in-number, ends-in-page, unfit, left-over}
+use Rattle.run.specs.CampaignFile.{Groups, ends, over, whole, group, groups, Field, read, refused, Reader, andThen, _>>=_, given, shortestOf, numberFrom, numberOf}
+use Rattle.run.specs.CampaignFile.{greatestValues, numbersOf, longest, bytesOf, pageOf, partsOf, ended, campaignOf}
+use Rattle.run.specs.CampaignRefusals.{Kind, number, page, fields, Reached, start, after-number, after-page, EndsInside, OverTen, UnfitAt, over-ten, not-shortest, above, Stopped, ends-in-number, ends-in-page, unfit, left-over}
 use Rattle.run.specs.declared.campaign_file.Refusal.{Refusal}
 use Rattle.run.specs.declared.campaign_file.Refusal.the-variants.{Ends, Unfit, LeftOver}
 use Rattle.run.specs.declared.campaign_file.Page.{Page}
@@ -119,159 +118,7 @@ number-refused greatest bytes at stop e = go (groups 10 (drop at bytes)) refl e
     go over is e = subst (NumberRefused greatest bytes at) (refused-same e) (for-unfit (over-ten (over-ten-there bytes at is)))
     go (whole v count last) is e = test v count last (shortestOf count last && leb v greatest) is refl e
 
--- ---- one field after another
-
-record Somewhere (bytes : List ℕ) (k at : ℕ) : Type 0 where
-  last : ℕ
-  reached : Reached bytes k at last
-
--- a reader that begins at the field k stops only for a reason
-record Stops {A : Type 0} (bytes : List ℕ) (reader : Reader A) (k : ℕ) : Type 0 where
-  stops : (at last : ℕ) (stop : Refusal) → Reached bytes k at last → reader bytes at ≡ refused stop → Stopped bytes stop
-
--- and where it reads, something is known of the next place
-record Goes {A : Type 0} (bytes : List ℕ) (reader : Reader A) (k : ℕ) (P : ℕ → Type 0) : Type 0 where
-  goes : (at last : ℕ) (a : A) (next : ℕ) → Reached bytes k at last → reader bytes at ≡ read a next → P next
-
-number-stops : (bytes : List ℕ) (k greatest : ℕ) → fieldAt k ≡ number greatest → Stops bytes (numberOf greatest) k
-number-stops bytes k greatest is = record { stops = λ at last stop r e. go at last stop r (number-refused greatest bytes at stop e) }
-  where
-    go : (at last : ℕ) (stop : Refusal) → Reached bytes k at last → NumberRefused greatest bytes at stop → Stopped bytes stop
-    go at last stop r (for-end h) = ends-in-number r is h
-    go at last stop r (for-unfit h) = unfit r is h
-
-number-goes : (bytes : List ℕ) (k greatest : ℕ) → fieldAt k ≡ number greatest → Goes bytes (numberOf greatest) k (Somewhere bytes (suc k))
-number-goes bytes k greatest is = record { goes = λ at last a next r e. record { last = a; reached = after-number r is e } }
-
-module _ {A B : Type 0} {bytes : List ℕ} {reader : Reader A} (rest : A → Reader B) where
-  then-stops : {k l : ℕ} → Stops bytes reader k → Goes bytes reader k (Somewhere bytes l) → ((a : A) → Stops bytes (rest a) l) → Stops bytes (reader >>= rest) k
-  then-stops {k} {l} p q s = record { stops = λ at last stop r e. go at last stop r (reader bytes at) refl e }
-    where
-      go : (at last : ℕ) (stop : Refusal) → Reached bytes k at last → (f : Field A) → reader bytes at ≡ f → onward bytes f rest ≡ refused stop → Stopped bytes stop
-      go at last stop r (read a next) is e =
-          let w = q .goes at last a next r is in
-          s a .stops next (w .last) stop (w .reached) e
-      go at last stop r (refused why) is e = subst (Stopped bytes) (refused-same e) (p .stops at last why r is)
-
-  then-goes : {k l : ℕ} {P : ℕ → Type 0} → Goes bytes reader k (Somewhere bytes l) → ((a : A) → Goes bytes (rest a) l P) → Goes bytes (reader >>= rest) k P
-  then-goes {k} {l} {P} q s = record { goes = λ at last b next r e. go at last b next r (reader bytes at) refl e }
-    where
-      go : (at last : ℕ) (b : B) (next : ℕ) → Reached bytes k at last → (f : Field A) → reader bytes at ≡ f → onward bytes f rest ≡ read b next → P next
-      go at last b next r (read a place) is e =
-          let w = q .goes at last a place r is in
-          s a .goes place (w .last) b next (w .reached) e
-      go at last b next r (refused why) is e = never why e refl
-
-given-stops : {A : Type 0} {bytes : List ℕ} {k : ℕ} (a : A) → Stops bytes (given a) k
-given-stops a = record { stops = λ at last stop r e. never stop refl e }
-
-given-goes : {A : Type 0} {bytes : List ℕ} {k : ℕ} (a : A) → Goes bytes (given a) k (Somewhere bytes k)
-given-goes {A} {bytes} {k} a = record { goes = λ at last b next r e. let same : at ≡ next = cc in subst (Somewhere bytes k) same (record { last = last; reached = r }) }
-
-field-stops : {B : Type 0} {bytes : List ℕ} (rest : ℕ → Reader B) (k greatest : ℕ) → fieldAt k ≡ number greatest → ((v : ℕ) → Stops bytes (rest v) (suc k))
-    → Stops bytes (numberOf greatest >>= rest) k
-field-stops {B} {bytes} rest k greatest is s = then-stops rest (number-stops bytes k greatest is) (number-goes bytes k greatest is) s
-
-field-goes : {B : Type 0} {bytes : List ℕ} (rest : ℕ → Reader B) {P : ℕ → Type 0} (k greatest : ℕ) → fieldAt k ≡ number greatest → ((v : ℕ) → Goes bytes (rest v) (suc k) P)
-    → Goes bytes (numberOf greatest >>= rest) k P
-field-goes {B} {bytes} rest {P} k greatest is s = then-goes rest (number-goes bytes k greatest is) s
-
-registers-stops : (bytes : List ℕ) → Stops bytes registersOf 0
-unfolding registersOf
-registers-stops bytes = field-stops _ 0 255 refl (λ a. field-stops _ 1 255 refl (λ b. given-stops _))
-
-registers-goes : (bytes : List ℕ) → Goes bytes registersOf 0 (Somewhere bytes 2)
-unfolding registersOf
-registers-goes bytes = field-goes _ 0 255 refl (λ a. field-goes _ 1 255 refl (λ b. given-goes _))
-
-words-stops : (bytes : List ℕ) → Stops bytes wordsOf 2
-unfolding wordsOf
-words-stops bytes = field-stops _ 2 65535 refl (λ a. field-stops _ 3 65535 refl (λ b. field-stops _ 4 65535 refl (λ c. field-stops _ 5 65535 refl (λ d. field-stops _ 6 65535 refl (λ e. given-stops _)))))
-
-words-goes : (bytes : List ℕ) → Goes bytes wordsOf 2 (Somewhere bytes 7)
-unfolding wordsOf
-words-goes bytes = field-goes _ 2 65535 refl (λ a. field-goes _ 3 65535 refl (λ b. field-goes _ 4 65535 refl (λ c. field-goes _ 5 65535 refl (λ d. field-goes _ 6 65535 refl (λ e. given-goes _)))))
-
-timing-stops : (bytes : List ℕ) → Stops bytes timingOf 7
-unfolding timingOf
-timing-stops bytes = field-stops _ 7 4095 refl (λ a. field-stops _ 8 511 refl (λ b. field-stops _ 9 (2 ^ 64 - 1) refl (λ c. field-stops _ 10 (2 ^ 64 - 1) refl (λ d. field-stops _ 11 (2 ^ 64 - 1) refl (λ e. given-stops _)))))
-
-timing-goes : (bytes : List ℕ) → Goes bytes timingOf 7 (Somewhere bytes 12)
-unfolding timingOf
-timing-goes bytes = field-goes _ 7 4095 refl (λ a. field-goes _ 8 511 refl (λ b. field-goes _ 9 (2 ^ 64 - 1) refl (λ c. field-goes _ 10 (2 ^ 64 - 1) refl (λ d. field-goes _ 11 (2 ^ 64 - 1) refl (λ e. given-goes _)))))
-
-asked-stops : (bytes : List ℕ) → Stops bytes askedOf 12
-unfolding askedOf
-asked-stops bytes = field-stops _ 12 255 refl (λ a. field-stops _ 13 (2 ^ 32 - 1) refl (λ b. given-stops _))
-
-asked-goes : (bytes : List ℕ) → Goes bytes askedOf 12 (Somewhere bytes 14)
-unfolding askedOf
-asked-goes bytes = field-goes _ 12 255 refl (λ a. field-goes _ 13 (2 ^ 32 - 1) refl (λ b. given-goes _))
-
--- a page: its length, then its bytes
-module _ (bytes : List ℕ) (k : ℕ) (is : fieldAt k ≡ number 16384) (then : fieldAt (suc k) ≡ page) where
-  bytes-stop : (at len : ℕ) (stop : Refusal) → Reached bytes (suc k) at len → bytesOf len bytes at ≡ refused stop → Stopped bytes stop
-  unfolding bytesOf
-  bytes-stop at len stop r e = go (ltb (length bytes) (at + len)) refl e
-    where
-      go : (t : Bool) → ltb (length bytes) (at + len) ≡ t → _≡_ {A = Field Page} (cond t (refused (Ends at)) (read (record { at = at; len = len }) (at + len))) (refused stop) → Stopped bytes stop
-      go true short e = subst (Stopped bytes) (refused-same e) (ends-in-page r then (ltb-true (length bytes) (at + len) short))
-      go false enough e = never stop refl e
-
-  bytes-go : (at len : ℕ) (p : Page) (next : ℕ) → Reached bytes (suc k) at len → bytesOf len bytes at ≡ read p next → Somewhere bytes (suc (suc k)) next
-  unfolding bytesOf
-  bytes-go at len p next r e = go (ltb (length bytes) (at + len)) refl e
-    where
-      go : (t : Bool) → ltb (length bytes) (at + len) ≡ t → cond t (refused (Ends at)) (read (record { at = at; len = len }) (at + len)) ≡ read p next
-          → Somewhere bytes (suc (suc k)) next
-      go true short e = never (Ends at) e refl
-      go false enough e =
-          let same : at + len ≡ next = cc in
-          subst (Somewhere bytes (suc (suc k))) same (record { last = len; reached = after-page r then (ltb-false (length bytes) (at + len) enough) })
-
-  page-stops : Stops bytes pageOf k
-  unfolding pageOf
-  page-stops = record { stops = λ at last stop r e. go at last stop r (numberOf 16384 bytes at) refl e }
-    where
-      go : (at last : ℕ) (stop : Refusal) → Reached bytes k at last → (f : Field ℕ) → numberOf 16384 bytes at ≡ f → onward bytes f (λ len. bytesOf len) ≡ refused stop
-          → Stopped bytes stop
-      go at last stop r (read len next) was e = bytes-stop next len stop (after-number r is was) e
-      go at last stop r (refused why) was e = subst (Stopped bytes) (refused-same e) (number-stops bytes k 16384 is .stops at last why r was)
-
-  page-goes : Goes bytes pageOf k (Somewhere bytes (suc (suc k)))
-  unfolding pageOf
-  page-goes = record { goes = λ at last p next r e. go at last p next r (numberOf 16384 bytes at) refl e }
-    where
-      go : (at last : ℕ) (p : Page) (next : ℕ) → Reached bytes k at last → (f : Field ℕ) → numberOf 16384 bytes at ≡ f → onward bytes f (λ len. bytesOf len) ≡ read p next
-          → Somewhere bytes (suc (suc k)) next
-      go at last p next r (read len place) was e = bytes-go place len p next (after-number r is was) e
-      go at last p next r (refused why) was e = never why e refl
-
-ended-stops : (bytes : List ℕ) (c : Parsed) → Stops bytes (ended c) 18
-unfolding ended
-ended-stops bytes c = record { stops = λ at last stop r e. go at last stop r (ltb at (length bytes)) refl e }
-  where
-    go : (at last : ℕ) (stop : Refusal) → Reached bytes 18 at last → (t : Bool) → ltb at (length bytes) ≡ t → cond t (refused (LeftOver at)) (read c at) ≡ refused stop
-        → Stopped bytes stop
-    go at last stop r true more e = subst (Stopped bytes) (refused-same e) (left-over r (ltb-true at (length bytes) more))
-    go at last stop r false enough e = never stop refl e
-
-campaign-stops : (bytes : List ℕ) → Stops bytes campaignOf 0
-unfolding campaignOf
-campaign-stops bytes =
-    then-stops _ (registers-stops bytes) (registers-goes bytes) (λ r.
-    then-stops _ (words-stops bytes) (words-goes bytes) (λ w.
-    then-stops _ (timing-stops bytes) (timing-goes bytes) (λ t.
-    then-stops _ (asked-stops bytes) (asked-goes bytes) (λ s.
-    then-stops _ (page-stops bytes 14 refl refl) (page-goes bytes 14 refl refl) (λ p.
-    then-stops _ (page-stops bytes 16 refl refl) (page-goes bytes 16 refl refl) (λ q.
-    ended-stops bytes _))))))
-
--- a file that is turned down is turned down for a reason of `Stopped`
-pub refused-for : (bytes : List ℕ) (stop : Refusal) → campaignOf bytes 0 ≡ refused stop → Stopped bytes stop
-refused-for bytes stop e = campaign-stops bytes .stops 0 0 stop start e
-
--- ---- the other way: for each reason of `Stopped` the file is turned down so
+-- ---- the other way: a number is turned down so
 
 ends-groups : (left : ℕ) (l : List ℕ) → length l < left → Continued (length l) l → groups left l ≡ ends
 ends-groups zero l h c = absurd (omega arith)
@@ -309,101 +156,128 @@ number-unfit greatest bytes at (not-shortest {value = value} {count = count} g h
 number-unfit greatest bytes at (above {value = value} {count = count} {last = last} g h) =
     rw (g, lt-leb value greatest h, and-false (shortestOf count last))
 
--- the fields one after another, as a function: the last number read, and the place
-stepOf : List ℕ → Kind → ℕ → ℕ → Field ℕ
-stepOf bytes (number greatest) last at = numberOf greatest bytes at
-stepOf bytes page len at = cond (ltb (length bytes) (at + len)) (refused (Ends at)) (read len (at + len))
-stepOf bytes none last at = cond (ltb at (length bytes)) (refused (LeftOver at)) (read last at)
+-- ---- one field after another
 
-onwardStep : List ℕ → ℕ → Field ℕ → Field ℕ
-onwardStep bytes k (read last at) = stepOf bytes (fieldAt k) last at
-onwardStep bytes k (refused stop) = refused stop
+-- the fields that are left, from a place on; the last number read
+walk : List ℕ → List Kind → ℕ → ℕ → Field ℕ
+walk bytes [] last at = cond (ltb at (length bytes)) (refused (LeftOver at)) (read last at)
+walk bytes (number greatest ∷ left) last at = andThen bytes (numberOf greatest bytes at) (λ value bytes next. walk bytes left value next)
+walk bytes (page ∷ left) len at = cond (ltb (length bytes) (at + len)) (refused (Ends at)) (walk bytes left len (at + len))
 
-walk : List ℕ → ℕ → Field ℕ
-walk bytes zero = read 0 0
-walk bytes (suc k) = onwardStep bytes k (walk bytes k)
+walk-reached : (bytes : List ℕ) (left : List Kind) (at last : ℕ) → Reached bytes left at last → walk bytes fields 0 0 ≡ walk bytes left last at
+unfolding walk
+walk-reached bytes left at last start = refl
+walk-reached bytes left at last (after-number {greatest = greatest} {at = place} {last = before} r e) =
+    walk-reached bytes (number greatest ∷ left) place before r ∙ rw e
+walk-reached bytes left at last (after-page {at = place} {len = len} r h) =
+    walk-reached bytes (page ∷ left) place len r ∙ rw (le-ltb (length bytes) (place + len) h)
 
-walk-reached : (bytes : List ℕ) (k at last : ℕ) → Reached bytes k at last → walk bytes k ≡ read last at
-unfolding walk onwardStep stepOf
-walk-reached bytes k at last start = refl
-walk-reached bytes k at last (after-number {k = j} {at = place} {last = before} r is e) = rw (walk-reached bytes j place before r, is, e)
-walk-reached bytes k at last (after-page {k = j} {at = place} {len = len} r is h) =
-    rw (walk-reached bytes j place len r, is, le-ltb (length bytes) (place + len) h)
+stopped-walk : (bytes : List ℕ) (stop : Refusal) → Stopped bytes stop → walk bytes fields 0 0 ≡ refused stop
+unfolding walk
+stopped-walk bytes stop (ends-in-number {at = at} {last = last} {greatest = greatest} {left = left} r h) =
+    walk-reached bytes (number greatest ∷ left) at last r ∙ rw (number-ended greatest bytes at h)
+stopped-walk bytes stop (ends-in-page {at = at} {len = len} {left = left} r h) =
+    walk-reached bytes (page ∷ left) at len r ∙ rw (lt-ltb (length bytes) (at + len) h)
+stopped-walk bytes stop (unfit {at = at} {last = last} {greatest = greatest} {left = left} r h) =
+    walk-reached bytes (number greatest ∷ left) at last r ∙ rw (number-unfit greatest bytes at h)
+stopped-walk bytes stop (left-over {at = at} {last = last} r h) = walk-reached bytes [] at last r ∙ rw (lt-ltb at (length bytes) h)
 
-walk-stays : (bytes : List ℕ) (k more : ℕ) (stop : Refusal) → walk bytes k ≡ refused stop → walk bytes (more + k) ≡ refused stop
-unfolding walk onwardStep
-walk-stays bytes k zero stop e = rw zero-add e
-walk-stays bytes k (suc more) stop e = rw (suc-add more k, walk-stays bytes k more stop e)
-
-walk-halts : (bytes : List ℕ) (k : ℕ) (stop : Refusal) → k < 19 → walk bytes (suc k) ≡ refused stop → walk bytes 19 ≡ refused stop
-walk-halts bytes k stop h e =
-    let all : 18 - k + suc k ≡ 19 = omega arith in
-    subst (λ (n : ℕ). walk bytes n ≡ refused stop) all (walk-stays bytes (suc k) (18 - k) stop e)
-
-number-field : (k greatest : ℕ) → fieldAt k ≡ number greatest → k < 19
-number-field k greatest is = go (lt-or-ge k 18)
+walk-stopped : (bytes : List ℕ) (left : List Kind) (at last : ℕ) (stop : Refusal) → Reached bytes left at last → walk bytes left last at ≡ refused stop → Stopped bytes stop
+unfolding walk
+walk-stopped bytes [] at last stop r e = go (ltb at (length bytes)) refl e
   where
-    go : (k < 18) ⊎ (18 ≤ k) → k < 19
-    go (inl h) = omega arith
-    go (inr h) = absurd (let past : fieldAt k ≡ none = List·getD-eq-default fields none h in let z : _≡_ {A = ℕ} 0 1 = cc in omega arith)
-
-page-field : (k : ℕ) → fieldAt k ≡ page → k < 19
-page-field k is = go (lt-or-ge k 18)
+    go : (t : Bool) → ltb at (length bytes) ≡ t → cond t (refused (LeftOver at)) (read last at) ≡ refused stop → Stopped bytes stop
+    go true more e = subst (Stopped bytes) (refused-same e) (left-over r (ltb-true at (length bytes) more))
+    go false none e = never stop refl e
+walk-stopped bytes (number greatest ∷ left) at last stop r e = go (numberOf greatest bytes at) refl (λ value next. walk-stopped bytes left next value stop) e
   where
-    go : (k < 18) ⊎ (18 ≤ k) → k < 19
-    go (inl h) = omega arith
-    go (inr h) = absurd (let past : fieldAt k ≡ none = List·getD-eq-default fields none h in let z : _≡_ {A = ℕ} 0 1 = cc in omega arith)
+    why : {given : Refusal} → NumberRefused greatest bytes at given → Stopped bytes given
+    why (for-end h) = ends-in-number r h
+    why (for-unfit h) = unfit r h
 
-stopped-walk : (bytes : List ℕ) (stop : Refusal) → Stopped bytes stop → walk bytes 19 ≡ refused stop
-unfolding walk onwardStep stepOf
-stopped-walk bytes stop (ends-in-number {k = k} {at = at} {last = last} {greatest = greatest} r is h) =
-    walk-halts bytes k (Ends at) (number-field k greatest is) (rw (walk-reached bytes k at last r, is, number-ended greatest bytes at h))
-stopped-walk bytes stop (ends-in-page {k = k} {at = at} {len = len} r is h) =
-    walk-halts bytes k (Ends at) (page-field k is) (rw (walk-reached bytes k at len r, is, lt-ltb (length bytes) (at + len) h))
-stopped-walk bytes stop (unfit {k = k} {at = at} {last = last} {greatest = greatest} r is h) =
-    walk-halts bytes k (Unfit at) (number-field k greatest is) (rw (walk-reached bytes k at last r, is, number-unfit greatest bytes at h))
-stopped-walk bytes stop (left-over {at = at} {last = last} r h) = ap (onwardStep bytes 18) (walk-reached bytes 18 at last r) ∙ rw (lt-ltb at (length bytes) h)
-
--- where all is read, the walk is at the end of the file
-record Finished (bytes : List ℕ) (at : ℕ) : Type 0 where
-  last : ℕ
-  reached : Reached bytes 18 at last
-  all : length bytes ≤ at
-
-ended-goes : (bytes : List ℕ) (c : Parsed) → Goes bytes (ended c) 18 (Finished bytes)
-unfolding ended
-ended-goes bytes c = record { goes = λ at last a next r e. go at last a next r (ltb at (length bytes)) refl e }
+    go : (f : Field ℕ) → numberOf greatest bytes at ≡ f → ((value next : ℕ) → Reached bytes left next value → walk bytes left value next ≡ refused stop → Stopped bytes stop)
+        → andThen bytes f (λ value bytes next. walk bytes left value next) ≡ refused stop → Stopped bytes stop
+    go (read value next) is rest e = rest value next (after-number r is) e
+    go (refused given) is rest e = subst (Stopped bytes) (refused-same e) (why (number-refused greatest bytes at given is))
+walk-stopped bytes (page ∷ left) at len stop r e = go (ltb (length bytes) (at + len)) refl (walk-stopped bytes left (at + len) len stop) e
   where
-    go : (at last : ℕ) (a : Parsed) (next : ℕ) → Reached bytes 18 at last → (t : Bool) → ltb at (length bytes) ≡ t → cond t (refused (LeftOver at)) (read c at) ≡ read a next
-        → Finished bytes next
-    go at last a next r true more e = never (LeftOver at) e refl
-    go at last a next r false enough e =
-        let same : at ≡ next = cc in
-        subst (Finished bytes) same (record { last = last; reached = r; all = ltb-false at (length bytes) enough })
+    go : (t : Bool) → ltb (length bytes) (at + len) ≡ t → (Reached bytes left (at + len) len → walk bytes left len (at + len) ≡ refused stop → Stopped bytes stop)
+        → cond t (refused (Ends at)) (walk bytes left len (at + len)) ≡ refused stop → Stopped bytes stop
+    go true short rest e = subst (Stopped bytes) (refused-same e) (ends-in-page r (ltb-true (length bytes) (at + len) short))
+    go false there rest e = rest (after-page r (ltb-false (length bytes) (at + len) there)) e
 
-campaign-goes : (bytes : List ℕ) → Goes bytes campaignOf 0 (Finished bytes)
+-- ---- the definition ends where the walk does
+
+-- where a field ends, or why it is turned down
+abbrev endOf : {A : Type 0} → Field A → Field ℕ
+endOf (read a next) = read next next
+endOf (refused stop) = refused stop
+
+end-refused : {A : Type 0} (f : Field A) {stop : Refusal} → endOf f ≡ refused stop → f ≡ refused stop
+end-refused (read a next) {stop} e = never stop refl e
+end-refused (refused why) e = ap refused (refused-same e)
+
+numbers-walk : (greatests bytes : List ℕ) (greatest : ℕ) (left : List Kind) (last at : ℕ)
+    → walk bytes (map number greatests ++ (number greatest ∷ left)) last at
+    ≡ andThen bytes (numbersOf greatests bytes at) (λ values bytes next. walk bytes (number greatest ∷ left) 0 next)
+unfolding walk numbersOf
+numbers-walk [] bytes greatest left last at = refl
+numbers-walk (first ∷ greatests) bytes greatest left last at = go (numberOf first bytes at) (numbers-walk greatests bytes greatest left)
+  where
+    through : (value : ℕ) (f : Field (List ℕ))
+        → andThen bytes f (λ values bytes next. walk bytes (number greatest ∷ left) 0 next)
+        ≡ andThen bytes (andThen bytes f (λ values. given (value ∷ values))) (λ values bytes next. walk bytes (number greatest ∷ left) 0 next)
+    through value (read values next) = refl
+    through value (refused stop) = refl
+
+    go : (f : Field ℕ)
+        → ((last at : ℕ) → walk bytes (map number greatests ++ (number greatest ∷ left)) last at
+        ≡ andThen bytes (numbersOf greatests bytes at) (λ values bytes next. walk bytes (number greatest ∷ left) 0 next))
+        → andThen bytes f (λ value bytes next. walk bytes (map number greatests ++ (number greatest ∷ left)) value next)
+        ≡ andThen bytes (andThen bytes f (λ value. numbersOf greatests >>= λ values. given (value ∷ values))) (λ values bytes next. walk bytes (number greatest ∷ left) 0 next)
+    go (read value next) rest = rest value next ∙ through value (numbersOf greatests bytes next)
+    go (refused stop) rest = refl
+
+page-walk : {B : Type 0} (bytes : List ℕ) (left : List Kind) (last at : ℕ) (rest : Page → Reader B)
+    → ((p : Page) (len next : ℕ) → endOf (rest p bytes next) ≡ endOf (walk bytes left len next))
+    → endOf (andThen bytes (pageOf bytes at) rest) ≡ endOf (walk bytes (number longest ∷ page ∷ left) last at)
+unfolding walk pageOf bytesOf
+page-walk {B} bytes left last at rest same = go (numberOf longest bytes at)
+  where
+    cut : (t : Bool) (len next : ℕ)
+        → endOf (andThen bytes (cond t (refused (Ends next)) (read (record { at = next; len = len }) (next + len))) rest)
+        ≡ endOf (cond t (refused (Ends next)) (walk bytes left len (next + len)))
+    cut true len next = refl
+    cut false len next = same (record { at = next; len = len }) len (next + len)
+
+    go : (f : Field ℕ) → endOf (andThen bytes (andThen bytes f bytesOf) rest) ≡ endOf (andThen bytes f (λ len bytes next. walk bytes (page ∷ left) len next))
+    go (read len next) = cut (ltb (length bytes) (next + len)) len next
+    go (refused stop) = refl
+
+ended-walk : (bytes : List ℕ) (c : Parsed) (len at : ℕ) → endOf (ended c bytes at) ≡ endOf (walk bytes [] len at)
+unfolding walk ended
+ended-walk bytes c len at = go (ltb at (length bytes))
+  where
+    go : (t : Bool) → endOf (cond t (refused (LeftOver at)) (read c at)) ≡ endOf (cond t (refused (LeftOver at)) (read len at))
+    go true = refl
+    go false = refl
+
+campaign-walk : (bytes : List ℕ) → endOf (campaignOf bytes 0) ≡ endOf (walk bytes fields 0 0)
 unfolding campaignOf
-campaign-goes bytes =
-    then-goes _ (registers-goes bytes) (λ r.
-    then-goes _ (words-goes bytes) (λ w.
-    then-goes _ (timing-goes bytes) (λ t.
-    then-goes _ (asked-goes bytes) (λ s.
-    then-goes _ (page-goes bytes 14 refl refl) (λ p.
-    then-goes _ (page-goes bytes 16 refl refl) (λ q.
-    ended-goes bytes _))))))
+campaign-walk bytes =
+    go (numbersOf greatestValues bytes 0) ∙ ap endOf (sym (numbers-walk greatestValues bytes longest (page ∷ number longest ∷ page ∷ []) 0 0))
+  where
+    go : (f : Field (List ℕ))
+        → endOf (andThen bytes f (λ values. pageOf >>= λ page0. pageOf >>= λ page1. ended (partsOf values page0 page1)))
+        ≡ endOf (andThen bytes f (λ values bytes next. walk bytes (number longest ∷ page ∷ number longest ∷ page ∷ []) 0 next))
+    go (read values next) =
+        page-walk bytes (number longest ∷ page ∷ []) 0 next _ (λ page0 len place. page-walk bytes [] len place _ (λ page1. ended-walk bytes (partsOf values page0 page1)))
+    go (refused stop) = refl
 
-finished-walk : (bytes : List ℕ) (at : ℕ) (h : Finished bytes at) → walk bytes 19 ≡ read (h .last) at
-unfolding walk onwardStep stepOf
-finished-walk bytes at h = ap (onwardStep bytes 18) (walk-reached bytes 18 at (h .last) (h .reached)) ∙ rw (le-ltb at (length bytes) (h .all))
+-- a file that is turned down is turned down for a reason of `Stopped`
+pub refused-for : (bytes : List ℕ) (stop : Refusal) → campaignOf bytes 0 ≡ refused stop → Stopped bytes stop
+refused-for bytes stop e = walk-stopped bytes fields 0 0 stop start (end-refused (walk bytes fields 0 0) (sym (campaign-walk bytes) ∙ ap endOf e))
 
 -- for each reason of `Stopped` the file is turned down with that refusal
 pub refused-so : (bytes : List ℕ) (stop : Refusal) → Stopped bytes stop → campaignOf bytes 0 ≡ refused stop
-refused-so bytes stop s = go (campaignOf bytes 0) refl
-  where
-    go : (f : Field Parsed) → campaignOf bytes 0 ≡ f → f ≡ refused stop
-    go (read c next) is =
-        let h = campaign-goes bytes .goes 0 0 c next start is in
-        never stop (finished-walk bytes next h) (stopped-walk bytes stop s)
-    go (refused why) is =
-        let other : walk bytes 19 ≡ refused why = stopped-walk bytes why (refused-for bytes why is) in
-        ap refused (refused-same (sym other ∙ stopped-walk bytes stop s))
+refused-so bytes stop s = end-refused (campaignOf bytes 0) (campaign-walk bytes ∙ ap endOf (stopped-walk bytes stop s))

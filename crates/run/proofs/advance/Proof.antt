@@ -11,10 +11,10 @@ step-cpu-requires : tie.Need-step-cpu-requires
 step-cpu-requires c κs = (c .before .before .before .before .before .before .pre .0, sym (c .before .before .before .due .ensures) ∙ c .before .before .if1 .left)
 
 returns-2 : tie.Need-returns-2
-returns-2 c = rw (c .completed .ensures) (one-did (c .before .before .before .before .before .before .before .before .before .before .before .before .before .before .before .pre .1) (c .before .before .before .before .before .before .before .before .before .before .before .before .before .before .before .pre .0) (rw (c .before .before .outcome .given .1) at (c .before .before .before .before .before .before .before .before .step-cpu .ensures)))
+returns-2 c = rw (c .open-after .ensures) (one-did (c .before .before .before .before .before .before .before .before .before .before .before .before .before .before .before .pre .1) (c .before .before .before .before .before .before .before .before .before .before .before .before .before .before .before .pre .0) (rw (c .before .before .outcome .given .1) at (c .before .before .before .before .before .before .before .before .step-cpu .ensures)))
 
 returns-3 : tie.Need-returns-3
-returns-3 c = rw (c .stopped .ensures) (one-stops (c .before .before .before .before .before .before .before .before .before .before .before .before .before .before .before .pre .1) (rw (c .before .before .outcome2 .given .1) at (c .before .before .before .before .before .before .before .before .step-cpu .ensures)))
+returns-3 c = rw (c .stops-after .ensures) (one-stops (c .before .before .before .before .before .before .before .before .before .before .before .before .before .before .before .pre .1) (rw (c .before .before .outcome2 .given .1) at (c .before .before .before .before .before .before .before .before .step-cpu .ensures)))
 
 pub advance-spec : {M : Type 1} → statement M
 advance-spec =

@@ -1,25 +1,25 @@
 use mathlib.Core.Logic.{inl, inr, ⊎-elim}
 use native.Mathlib.Omega.{arith}
 use borrow.Author.Needs.{needs}
-use Rattle.run.proofs.Entry.{entry-page0, entry-page1, entry-timer, entry-limit}
+use Rattle.run.proofs.Acceptance.{acceptance-page0, acceptance-page1, acceptance-timer, acceptance-limit}
 use Rattle.run.proofs.Loop.{refused-answers, accepted-answers}
 use Rattle.run.proofs.run.Statement.{statement}
 use Rattle.run.proofs.run.Tie as tie
 
 returns : tie.Need-returns
-returns c = refused-answers _ _ _ (entry-page0 _ _ _ (c .before .if1 .taken)) (c .refused .ensures)
+returns c = refused-answers _ _ _ (acceptance-page0 _ _ _ (c .before .if1 .taken)) (c .refused .ensures)
 
 returns-2 : tie.Need-returns-2
-returns-2 c = refused-answers _ _ _ (entry-page1 _ _ _ (λ h. omega arith) (c .before .if2 .taken)) (c .refused2 .ensures)
+returns-2 c = refused-answers _ _ _ (acceptance-page1 _ _ _ (λ h. omega arith) (c .before .if2 .taken)) (c .refused2 .ensures)
 
 returns-3 : tie.Need-returns-3
-returns-3 c = refused-answers _ _ _ (entry-timer _ _ _ (λ h. omega arith) (λ h. omega arith) (c .before .if3 .taken)) (c .refused3 .ensures)
+returns-3 c = refused-answers _ _ _ (acceptance-timer _ _ _ (λ h. omega arith) (λ h. omega arith) (c .before .if3 .taken)) (c .refused3 .ensures)
 
 returns-4 : tie.Need-returns-4
-returns-4 c = refused-answers _ _ _ (entry-limit _ _ _ (λ h. omega arith) (λ h. omega arith) (λ h. omega arith) (inl (c .before .if4 .taken))) (c .refused4 .ensures)
+returns-4 c = refused-answers _ _ _ (acceptance-limit _ _ _ (λ h. omega arith) (λ h. omega arith) (λ h. omega arith) (inl (c .before .if4 .taken))) (c .refused4 .ensures)
 
 returns-5 : tie.Need-returns-5
-returns-5 c = refused-answers _ _ _ (entry-limit _ _ _ (λ h. omega arith) (λ h. omega arith) (λ h. omega arith) (inr (c .before .if5 .taken))) (c .refused5 .ensures)
+returns-5 c = refused-answers _ _ _ (acceptance-limit _ _ _ (λ h. omega arith) (λ h. omega arith) (λ h. omega arith) (inr (c .before .if5 .taken))) (c .refused5 .ensures)
 
 steps-of-requires : tie.Need-steps-of-requires
 steps-of-requires c κs = (omega arith, omega arith)

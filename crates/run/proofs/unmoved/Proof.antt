@@ -1,4 +1,4 @@
-use Rattle.run.specs.Leads.{unmovedOf}
+use Rattle.run.specs.Code.Leads.{unmovedOf}
 use borrow.Author.Needs.{needs}
 use Rattle.run.proofs.unmoved.Statement.{statement}
 use Rattle.run.proofs.unmoved.Tie as tie

@@ -2,7 +2,7 @@ use mathlib.Core.List.{[], _∷_}
 use mathlib.Core.Path.{refl}
 use native.Mathlib.Omega.{arith}
 use lib.ListN.{getD, drop}
-use Rattle.execution.specs.Chain.{chained}
+use Rattle.execution.specs.Code.Chain.{chained}
 use Rattle.execution.specs.OpcodesFd.{rowsFd}
 use Rattle.execution.proofs.Table.{passed-over}
 use borrow.Author.Needs.{needs}

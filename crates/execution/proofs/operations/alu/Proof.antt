@@ -1,13 +1,13 @@
 use Rattle.pages.proofs.Does.{does-then, does-done}
 use Rattle.execution.specs.Instructions.{aluOf}
-use Rattle.execution.proofs.Operands.{operand-at}
+use Rattle.execution.proofs.Operands.{does-operand}
 use borrow.Author.Needs.{needs}
 use Rattle.execution.proofs.operations.alu.Statement.{statement}
 use Rattle.execution.proofs.operations.alu.Tie as tie
 
 returns : tie.Need-returns
 unfolding aluOf
-returns c = does-then _ (rw (operand-at (c .before .before .before .before .before .before .args .cpu) (c .before .before .before .before .before .before .args .place)) at (rw (c .before .before .before .word-at .ensures) at (c .before .before .operand .ensures))) (does-done (rw (c .operate .ensures, c .before .with-p .ensures)))
+returns c = does-then _ (does-operand (c .before .before .before .before .before .before .args .cpu) (c .before .before .before .before .before .before .args .place) (c .before .before .before .word-at .ensures) (c .before .before .operand .ensures)) (does-done (rw (c .operate .ensures, c .before .with-p .ensures)))
 
 pub alu-spec : {M : Type 1} → statement M
 alu-spec =

@@ -1,13 +1,13 @@
 use Rattle.pages.proofs.Does.{does-then, does-done}
 use Rattle.execution.specs.Instructions.{memoryOf}
-use Rattle.execution.proofs.Operands.{locate-at}
+use Rattle.execution.proofs.Operands.{does-locate}
 use borrow.Author.Needs.{needs}
 use Rattle.execution.proofs.operations.memory.Statement.{statement}
 use Rattle.execution.proofs.operations.memory.Tie as tie
 
 returns : tie.Need-returns
 unfolding memoryOf
-returns c = does-then _ (rw (locate-at (c .before .before .before .before .before .before .before .before .before .before .before .before .before .before .before .before .before .before .before .before .before .before .args .cpu) (c .before .before .before .before .before .before .before .before .before .before .before .before .before .before .before .before .before .before .before .before .before .before .args .place)) at (rw (c .before .before .before .before .before .before .before .before .before .before .before .before .before .before .before .before .before .before .before .word-at .ensures) at (c .before .before .before .before .before .before .before .before .before .before .before .before .before .before .before .before .locate .ensures))) (does-then _ (c .before .before .before .before .before .before .before .before .before .before .before .before .before .cpu-readop .ensures) (does-then _ (c .before .before .before .before .before .before .before .before .before .before .read-byte .ensures) (does-then _ (rw (c .before .before .before .before .before .before .before .before .before .changed .ensures) at (c .before .before .before .before .before .before .write-byte .ensures)) (does-done (rw (c .with-t .ensures, c .before .with-p .ensures, c .before .before .before .before .before .before .before .before .before .changed .ensures))))))
+returns c = does-then _ (does-locate (c .before .before .before .before .before .before .before .before .before .before .before .before .before .before .before .before .before .before .before .before .before .before .args .cpu) (c .before .before .before .before .before .before .before .before .before .before .before .before .before .before .before .before .before .before .before .before .before .before .args .place) (c .before .before .before .before .before .before .before .before .before .before .before .before .before .before .before .before .before .before .before .word-at .ensures) (c .before .before .before .before .before .before .before .before .before .before .before .before .before .before .before .before .locate .ensures)) (does-then _ (c .before .before .before .before .before .before .before .before .before .before .before .before .before .cpu-readop .ensures) (does-then _ (c .before .before .before .before .before .before .before .before .before .before .read-byte .ensures) (does-then _ (rw (c .before .before .before .before .before .before .before .before .before .changed .ensures) at (c .before .before .before .before .before .before .write-byte .ensures)) (does-done (rw (c .with-t .ensures, c .before .with-p .ensures, c .before .before .before .before .before .before .before .before .before .changed .ensures))))))
 
 pub memory-spec : {M : Type 1} → statement M
 memory-spec =

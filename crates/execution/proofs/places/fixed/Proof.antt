@@ -1,5 +1,5 @@
 use Rattle.pages.proofs.Does.{does-then, does-done}
-use Rattle.execution.specs.Operands.{fixedAt}
+use Rattle.execution.specs.Code.Operands.{fixedAt}
 use borrow.Author.Needs.{needs}
 use Rattle.execution.proofs.places.fixed.Statement.{statement}
 use Rattle.execution.proofs.places.fixed.Tie as tie

@@ -51,4 +51,4 @@ put-registers-spec =
     (λ c. put-length (so9 (c .before .before) .both))
     (λ c.
     let m = c .before .before .before .before .before .before .before .before .before .before .before .before .before .before .before .before .before .before .before .before .before .before .before .before .before .before .before .before .before .before .before .before .before .before .before .before .before .before .before .before .args .cpu in
-    put-fields (hexOf 2 (m .a)) (drop 1 (registerFields m)) (rw (c .before .before .before .before .flags-of .ensures) at (so9 (c .before .before) .both))))
+    put-fields (hexOf 2 (m .a)) (drop 1 (registerFields m)) (rw (c .before .before .before .before .flags-of .ensures .0) at (so9 (c .before .before) .both))))

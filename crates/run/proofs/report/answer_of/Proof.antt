@@ -1,10 +1,14 @@
 use mathlib.Core.Path.{refl, _∙_}
+use Rattle.run.proofs.Stored.{copied}
 use borrow.Author.Needs.{needs}
 use Rattle.run.proofs.report.answer_of.Statement.{statement}
 use Rattle.run.proofs.report.answer_of.Tie as tie
 
 returns : tie.Need-returns
-returns c = c .before .before .run-parts .ensures ∙ rw (c .before .before .before .before .before .settings-of .ensures, c .before .before .before .before .before .before .before .before .before .before .before .before .copy-part .ensures, c .before .before .before .before .before .before .before .before .before .copy-part2 .ensures) refl
+returns c =
+    let s = c .before .before .before .before .before .before .before .before .before .before .before .before .before .before .before in
+    c .before .before .run-parts .ensures .answer
+    ∙ rw (c .before .before .before .before .before .settings-of .ensures, copied _ _ _ _ (c .before .before .before .before .before .before .before .before .before .before .before .before .copy-part .ensures) (s .pre .0 .0) (search needs), copied _ _ _ _ (c .before .before .before .before .before .before .before .before .before .copy-part2 .ensures) (s .pre .1 .0) (search needs)) refl
 
 pub answer-of-spec : {M : Type 1} → statement M
 answer-of-spec =

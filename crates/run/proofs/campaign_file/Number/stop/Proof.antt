@@ -2,7 +2,7 @@
 -- Assumes nothing.
 use borrow.Author.Needs.{needs}
 use mathlib.Core.Path.{ap, sym}
-use Rattle.run.specs.CampaignFile.{numberStop}
+use Rattle.run.specs.Code.FileAnswers.{numberStop}
 use Rattle.run.proofs.campaign_file.Number.stop.Statement.{statement}
 use Rattle.run.proofs.campaign_file.Number.stop.Tie as tie
 

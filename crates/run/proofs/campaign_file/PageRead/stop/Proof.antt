@@ -2,7 +2,7 @@
 -- Assumes nothing.
 use borrow.Author.Needs.{needs}
 use mathlib.Core.Path.{ap, sym}
-use Rattle.run.specs.CampaignFile.{pageStop}
+use Rattle.run.specs.Code.FileAnswers.{pageStop}
 use Rattle.run.proofs.campaign_file.PageRead.stop.Statement.{statement}
 use Rattle.run.proofs.campaign_file.PageRead.stop.Tie as tie
 

@@ -1,0 +1,4 @@
+-- How the code is built, where that is not document 01's word: nothing here need be believed.
+pub mod Chain
+pub mod Operands
+pub mod Due

@@ -1,0 +1,10 @@
+-- `run::campaign_file::NumbersRead::stop` meets its contract.
+-- Assumes nothing.
+use borrow.Author.Needs.{needs}
+use mathlib.Core.Path.{ap, sym}
+use Rattle.run.specs.Code.FileAnswers.{numbersStop}
+use Rattle.run.proofs.campaign_file.NumbersRead.stop.Statement.{statement}
+use Rattle.run.proofs.campaign_file.NumbersRead.stop.Tie as tie
+
+pub stop-spec : {M : Type 1} → statement M
+stop-spec = tie.close (tie.spec (λ c. search needs) (λ c. search needs) (λ c. search needs) (λ c. ap numbersStop (sym (c .before .self2 .given .1))))

@@ -1,9 +1,0 @@
-use borrow.Author.Needs.{needs}
-use Rattle.run.proofs.report.told_line.Statement.{statement}
-use Rattle.run.proofs.report.told_line.Tie as tie
-
-returns : tie.Need-returns
-returns c = rw (c .before .number .ensures) at (c .line .ensures)
-
-pub told-line-spec : {M : Type 1} → statement M
-told-line-spec = tie.close (tie.spec (λ c κs. search needs) (λ c κs. search needs) returns)

@@ -29,10 +29,10 @@ same-eq false true t = absurd t
 same-eq false false t = refl
 
 -- the test f passes at both truth values
-abbrev pub either : (Bool → Bool) → Bool
-either f = both (f true) (f false)
+abbrev pub atBoth : (Bool → Bool) → Bool
+atBoth f = both (f true) (f false)
 
-pub at-bool : (f : Bool → Bool) → T (either f) → (b : Bool) → T (f b)
+pub at-bool : (f : Bool → Bool) → T (atBoth f) → (b : Bool) → T (f b)
 at-bool f t true = both-left (f true) (f false) t
 at-bool f t false = both-right (f true) (f false) t
 

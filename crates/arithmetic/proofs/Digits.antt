@@ -8,41 +8,41 @@ use borrow.Author.Tests.{le-leb, lt-leb}
 use Rattle.arithmetic.specs.Flags.{CF, bitOf, hasFlag}
 use Rattle.arithmetic.specs.Sums.{total, addOf, inverted}
 use Rattle.arithmetic.specs.Decimal.{adjust, decimalSumOf, dcaSum, dcsSum, Digits, valueOf, DcaDigits, DcsDigits}
-use Rattle.arithmetic.proofs.Compute.{both, both-left, both-right, either, at-bool, every, at}
+use Rattle.arithmetic.proofs.Compute.{both, both-left, both-right, atBoth, at-bool, every, at}
 use Rattle.arithmetic.proofs.Flags.{add-flags}
 
 -- what a decimal sum gives, with C and H put as the tests of the sum that they are
-reached : ℕ → ℕ → Bool → Bool
-reached l r c = leb 256 (total l r c)
+carries : ℕ → ℕ → Bool → Bool
+carries l r c = leb 256 (total l r c)
 
 result : ℕ → ℕ → Bool → ℕ
-result l r c = (total l r c % 256 + adjust (reached l r c) (leb 16 (total (l % 16) (r % 16) c))) % 256
+result l r c = (total l r c % 256 + adjust (carries l r c) (leb 16 (total (l % 16) (r % 16) c))) % 256
 
 module _ (t : ℕ) (small : t < 256) (l r : ℕ) (c : Bool) where
-  carry-is : hasFlag (decimalSumOf t l r c .t) CF ≡ reached l r c
-  unfolding decimalSumOf reached
+  carry-is : hasFlag (decimalSumOf t l r c .t) CF ≡ carries l r c
+  unfolding decimalSumOf carries
   carry-is = add-flags t small l r c .carry
 
   value-is : decimalSumOf t l r c .value ≡ result l r c
-  unfolding decimalSumOf result reached addOf
+  unfolding decimalSumOf result carries addOf
   value-is = rw (add-flags t small l r c .carry, add-flags t small l r c .half)
 
 -- the byte that writes a number below 100
-written : ℕ → ℕ
-written n = n / 10 * 16 + n % 10
+digitsOf : ℕ → ℕ
+digitsOf n = n / 10 * 16 + n % 10
 
 -- valid digits write the number that their value is
 module _ (b : ℕ) (h : Digits b) where
   below-hundred : valueOf b < 100
   below-hundred = omega (arith, h .high, h .low)
 
-  written-back : written (valueOf b) ≡ b
-  unfolding written
-  written-back = omega (arith, h .high, h .low)
+  digits-back : digitsOf (valueOf b) ≡ b
+  unfolding digitsOf
+  digits-back = omega (arith, h .high, h .low)
 
 -- a test passes at all numbers below 100 and both carries
 abbrev everywhere : (ℕ → ℕ → Bool → Bool) → Bool
-everywhere f = every (λ k. either (f (k / 100) (k % 100))) 0 10000
+everywhere f = every (λ k. atBoth (f (k / 100) (k % 100))) 0 10000
 
 row : (m n : ℕ) → n < 100 → (m * 100 + n) / 100 ≡ m
 row m n h = omega arith
@@ -53,7 +53,7 @@ column m n h = omega arith
 anywhere : (f : ℕ → ℕ → Bool → Bool) → T (everywhere f) → (m n : ℕ) → m < 100 → n < 100 → (c : Bool) → T (f m n c)
 anywhere f all m n hm hn c =
     rw (row m n hn, column m n hn)
-    at (at-bool (f ((m * 100 + n) / 100) ((m * 100 + n) % 100)) (at (λ k. either (f (k / 100) (k % 100))) 10000 all (m * 100 + n) (omega arith)) c)
+    at (at-bool (f ((m * 100 + n) / 100) ((m * 100 + n) % 100)) (at (λ k. atBoth (f (k / 100) (k % 100))) 10000 all (m * 100 + n) (omega arith)) c)
 
 -- the byte v has valid digits
 valid : ℕ → Bool
@@ -70,21 +70,21 @@ valid-digits v t =
 -- DCA's rule at the bytes of m and n
 dca-right : ℕ → ℕ → Bool → Bool
 dca-right m n c =
-    let l : ℕ = (written m + 0x66) % 256 in
-    both (valid (result l (written n) c)) (eqb (valueOf (result l (written n) c) + 100 * bitOf (reached l (written n) c)) (m + n + bitOf c))
+    let l : ℕ = (digitsOf m + 0x66) % 256 in
+    both (valid (result l (digitsOf n) c)) (eqb (valueOf (result l (digitsOf n) c) + 100 * bitOf (carries l (digitsOf n) c)) (m + n + bitOf c))
 
 dca-all : T (everywhere dca-right)
-unfolding dca-right written valid result reached
+unfolding dca-right digitsOf valid result carries
 dca-all = tt
 
 -- DCS's
 dcs-right : ℕ → ℕ → Bool → Bool
 dcs-right m n c =
-    let r : ℕ = inverted (written n) in
-    both (valid (result (written m) r c)) (eqb (valueOf (result (written m) r c) + n + 1) (m + bitOf c + 100 * (1 - bitOf (reached (written m) r c))))
+    let r : ℕ = inverted (digitsOf n) in
+    both (valid (result (digitsOf m) r c)) (eqb (valueOf (result (digitsOf m) r c) + n + 1) (m + bitOf c + 100 * (1 - bitOf (carries (digitsOf m) r c))))
 
 dcs-all : T (everywhere dcs-right)
-unfolding dcs-right written valid result reached
+unfolding dcs-right digitsOf valid result carries
 dcs-all = tt
 
 -- a value below 100 with the hundreds of a carry: the sum modulo 100, and the carry set exactly where the sum reaches 100
@@ -111,8 +111,8 @@ module _ (t a d : ℕ) (small : t < 256) (ha : Digits a) (hd : Digits d) where
       let c : Bool = hasFlag t CF in
       let l : ℕ = (a + 0x66) % 256 in
       let value : decimalSumOf t l d c .value ≡ result l d c = value-is t small l d c in
-      let carry : hasFlag (decimalSumOf t l d c .t) CF ≡ reached l d c = carry-is t small l d c in
-      let right = rw (written-back a ha, written-back d hd) at (at-digits dca-right dca-all) in
+      let carry : hasFlag (decimalSumOf t l d c .t) CF ≡ carries l d c = carry-is t small l d c in
+      let right = rw (digits-back a ha, digits-back d hd) at (at-digits dca-right dca-all) in
       let digits : Digits (decimalSumOf t l d c .value) = rw value (valid-digits (result l d c) (both-left (valid (result l d c)) _ right)) in
       let equation : valueOf (decimalSumOf t l d c .value) + 100 * bitOf (hasFlag (decimalSumOf t l d c .t) CF) ≡ valueOf a + valueOf d + bitOf c =
       rw (value, carry) (eqb→eq _ _ (both-right (valid (result l d c)) _ right)) in
@@ -129,8 +129,8 @@ module _ (t a d : ℕ) (small : t < 256) (ha : Digits a) (hd : Digits d) where
       let c : Bool = hasFlag t CF in
       let r : ℕ = inverted d in
       let value : decimalSumOf t a r c .value ≡ result a r c = value-is t small a r c in
-      let carry : hasFlag (decimalSumOf t a r c .t) CF ≡ reached a r c = carry-is t small a r c in
-      let right = rw (written-back a ha, written-back d hd) at (at-digits dcs-right dcs-all) in
+      let carry : hasFlag (decimalSumOf t a r c .t) CF ≡ carries a r c = carry-is t small a r c in
+      let right = rw (digits-back a ha, digits-back d hd) at (at-digits dcs-right dcs-all) in
       let digits : Digits (decimalSumOf t a r c .value) = rw value (valid-digits (result a r c) (both-left (valid (result a r c)) _ right)) in
       let equation : valueOf (decimalSumOf t a r c .value) + valueOf d + 1 ≡ valueOf a + bitOf c + 100 * (1 - bitOf (hasFlag (decimalSumOf t a r c .t) CF)) =
       rw (value, carry) (eqb→eq _ _ (both-right (valid (result a r c)) _ right)) in

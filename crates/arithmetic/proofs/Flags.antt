@@ -12,7 +12,7 @@ use Rattle.arithmetic.specs.Decimal.{decimalSumOf}
 use Rattle.arithmetic.specs.Logic.{ldaOf, ttaOf}
 use Rattle.arithmetic.specs.Record.{with-a, with-t}
 use Rattle.arithmetic.specs.declared.record.Lh5801.{Lh5801}
-use Rattle.arithmetic.proofs.Compute.{both, both-left, both-right, same, same-eq, either, at-bool, every, at}
+use Rattle.arithmetic.proofs.Compute.{both, both-left, both-right, same, same-eq, atBoth, at-bool, every, at}
 
 -- all that FlagsAre says, as a test
 flags-hold : ℕ → Bool → Bool → Bool → Bool → Bool
@@ -24,7 +24,7 @@ flags-hold t c z v h =
     (both (same (hasFlag n HF) h)
     (both (same (hasFlag n IE) (hasFlag t IE)) (eqb (n / 32) (t / 32))))))
 
-all-flags-hold : T (every (λ t. either (λ c. either (λ z. either (λ v. either (λ h. flags-hold t c z v h))))) 0 256)
+all-flags-hold : T (every (λ t. atBoth (λ c. atBoth (λ z. atBoth (λ v. atBoth (λ h. flags-hold t c z v h))))) 0 256)
 unfolding flags-hold withFlags
 all-flags-hold = tt
 
@@ -32,10 +32,10 @@ module _ (t : ℕ) (small : t < 256) (c z v h : Bool) where
   at-flags : T (flags-hold t c z v h)
   at-flags =
       at-bool (λ h. flags-hold t c z v h)
-      (at-bool (λ v. either (λ h. flags-hold t c z v h))
-      (at-bool (λ z. either (λ v. either (λ h. flags-hold t c z v h)))
-      (at-bool (λ c. either (λ z. either (λ v. either (λ h. flags-hold t c z v h))))
-      (at (λ t. either (λ c. either (λ z. either (λ v. either (λ h. flags-hold t c z v h))))) 256 all-flags-hold t small) c) z) v) h
+      (at-bool (λ v. atBoth (λ h. flags-hold t c z v h))
+      (at-bool (λ z. atBoth (λ v. atBoth (λ h. flags-hold t c z v h)))
+      (at-bool (λ c. atBoth (λ z. atBoth (λ v. atBoth (λ h. flags-hold t c z v h))))
+      (at (λ t. atBoth (λ c. atBoth (λ z. atBoth (λ v. atBoth (λ h. flags-hold t c z v h))))) 256 all-flags-hold t small) c) z) v) h
 
   pub flags-are : FlagsAre t c z v h (withFlags t c z v h)
   unfolding flags-hold
@@ -67,7 +67,7 @@ kept : ℕ → ℕ → Bool → Bool
 kept t mask v =
     both (same (hasFlag (setFlag t mask v) mask) v) (eqb (bitAnd (setFlag t mask v) (255 - mask)) (bitAnd t (255 - mask)))
 
-all-kept : T (every (λ i. every (λ t. either (kept t (2 ^ i))) 0 256) 0 8)
+all-kept : T (every (λ i. every (λ t. atBoth (kept t (2 ^ i))) 0 256) 0 8)
 unfolding kept
 all-kept = tt
 
@@ -75,7 +75,7 @@ pub only-flag : (i t : ℕ) → i < 8 → t < 256 → (v : Bool) → OnlyFlag t 
 unfolding kept
 only-flag i t hi ht v =
     let k : T (kept t (2 ^ i) v) =
-    at-bool (kept t (2 ^ i)) (at (λ t. either (kept t (2 ^ i))) 256 (at (λ i. every (λ t. either (kept t (2 ^ i))) 0 256) 8 all-kept i hi) t ht) v in
+    at-bool (kept t (2 ^ i)) (at (λ t. atBoth (kept t (2 ^ i))) 256 (at (λ i. every (λ t. atBoth (kept t (2 ^ i))) 0 256) 8 all-kept i hi) t ht) v in
     record {
       given = same-eq _ _ (both-left (same (hasFlag (setFlag t (2 ^ i) v) (2 ^ i)) v) _ k);
       others = eqb→eq _ _ (both-right (same (hasFlag (setFlag t (2 ^ i) v) (2 ^ i)) v) _ k);

@@ -83,7 +83,7 @@ pub record SameTimes (m k : Lh5801) : Type 0 where
   pub tm : k .tm ≡ m .tm
   pub ticks : k .ticks ≡ m .ticks
 
--- k is m with another IR1 and timer reached
+-- k has IR1 and timer reached as given, and else m's status, T and P
 pub record Requested (m : Lh5801) (ir1 reached : Bool) (k : Lh5801) : Type 0 where
   pub is : statusOf k ≡ status (m .bf) (m .«is_halted») (m .ir0) ir1 (m .ir2) reached (hasFlag (m .t) IE) (m .tm) (m .ticks)
   pub t : k .t ≡ m .t
@@ -249,6 +249,15 @@ module _ (m : Lh5801) where
   pub requested : (ir1 reached : Bool) → Requested m ir1 reached (with-is-timer-reached (with-ir1 m ir1) reached)
   unfolding with-ir1 with-is-timer-reached
   requested ir1 reached = record { is = refl; t = refl; p = refl }
+
+  -- IR1 and timer reached set and set back, and set to what they were
+  pub requested-back : (ir1 reached : Bool) → with-is-timer-reached (with-ir1 (with-is-timer-reached (with-ir1 m ir1) reached) (m .ir1)) (m .«is_timer_reached») ≡ m
+  unfolding with-ir1 with-is-timer-reached
+  requested-back ir1 reached = refl
+
+  pub requested-same : with-is-timer-reached (with-ir1 m (m .ir1)) (m .«is_timer_reached») ≡ m
+  unfolding with-ir1 with-is-timer-reached
+  requested-same = refl
 
   -- P changes neither T nor U
   pub p-keeps : (v : ℕ) → (with-p m v .t ≡ m .t) × (with-p m v .u ≡ m .u)

@@ -42,7 +42,7 @@ pub struct Lh5801 {
 
 impl Lh5801 {
     // The same record, field by field. A setter that starts from here keeps the fields in registers:
-    // a whole copy with one store after it would go through memory (docs/MEASUREMENTS.md).
+    // a whole copy with one store after it would go through memory (docs/DECISIONS.md).
     fn each(self) -> Self
         ensures { λ r. ⌜ r ≡ self ⌝ }
     {

@@ -11,13 +11,13 @@ use Rattle.execution.proofs.instructions.Accumulator as accumulator
 use Rattle.execution.proofs.instructions.Signal as signal
 use Rattle.execution.proofs.instructions.Instruction as instruction
 use Rattle.execution.specs.declared.places.Place.{Place}
-use Rattle.execution.specs.declared.places.Place.the-variants.{Half as HalfAt, Pointer, Fixed, InCode}
+use Rattle.execution.specs.declared.places.Place.the-variants.{InHalf, Pointer, Fixed, InCode}
 use Rattle.execution.specs.declared.instructions.Accumulator.{Accumulator}
-use Rattle.execution.specs.declared.instructions.Accumulator.the-variants.{Inc as IncA, Dec as DecA, Ror, Shr, Shl, Rol, Aex, Tta, Att, Ita, Am0, Am1}
+use Rattle.execution.specs.declared.instructions.Accumulator.the-variants.{IncA, DecA, Ror, Shr, Shl, Rol, Aex, Tta, Att, Ita, Am0, Am1}
 use Rattle.execution.specs.declared.instructions.Signal.{Signal}
-use Rattle.execution.specs.declared.instructions.Signal.the-variants.{Pu, Pv, Disp, Carry as CarryFlag, InterruptEnable}
+use Rattle.execution.specs.declared.instructions.Signal.the-variants.{Pu, Pv, Disp, CarryFlag, InterruptEnable}
 use Rattle.execution.specs.declared.instructions.Instruction.{Instruction}
-use Rattle.execution.specs.declared.instructions.Instruction.the-variants.{Alu, Sta, Memory, Bii, Drr, Drl, Load, Compare, Inc, Dec, IncWord, DecWord, Sin, Sde, Lin, Lde, Branch, Lop, VectorIf, Vector, Jmp, Sjp, Rtn, Rti, LoadS, Tin, Cin, Accumulator as OnA, Signal as Sets, PopWord, PushWord, PopA, PushA, ToX, FromX, DropWord, Adr, Off, Hlt, Cdv, Nop}
+use Rattle.execution.specs.declared.instructions.Instruction.the-variants.{Alu, Sta, Memory, Bii, Drr, Drl, Load, Compare, Inc, Dec, IncWord, DecWord, Sin, Sde, Lin, Lde, Branch, Lop, VectorIf, Vector, Jmp, Sjp, Rtn, Rti, LoadS, Tin, Cin, OnA, Sets, PopWord, PushWord, PopA, PushA, ToX, FromX, DropWord, Adr, Off, Hlt, Cdv, Nop}
 use Rattle.execution.specs.Instructions.{storeOf, staOf}
 use Rattle.execution.specs.Code.Due.{settledOnA, settledSignal, settledOf}
 
@@ -27,7 +27,7 @@ places = 1 ∷ 2 ∷ 3 ∷ []
 
 pub other-place : (m : Lh5801) (place : Place) → OneOf places (tagOf place-of.the-type place) → staOf m place ≡ storeOf m place
 unfolding staOf
-other-place m (HalfAt half) h = absurd (miss places 0 tt h)
+other-place m (InHalf half) h = absurd (miss places 0 tt h)
 other-place m (Pointer page r) h = refl
 other-place m (Fixed page) h = refl
 other-place m InCode h = refl

@@ -1,7 +1,7 @@
 -- What an instruction does to TM, to the ticks, and to what decides whether an instruction is due.
 use mathlib.Core.Path.{_≡_, refl, sym, ap, subst, _∙_}
 use mathlib.Core.Bool.{Bool, true, false, cond, false≢true}
-use Prim.Native.Nat.{ℕ, _+_, _-_, _%_, _^_, _<_}
+use Prim.Native.Nat.{ℕ, _+_, _%_, _^_, _<_}
 use native.Mathlib.Omega.{arith}
 use lib.Bits.{bitAnd, bitOr}
 use lib.Dec.{eqb}
@@ -20,22 +20,22 @@ use Rattle.execution.specs.declared.Inputs.{Inputs}
 use Rattle.execution.specs.declared.places.Register.{Register}
 use Rattle.execution.specs.declared.places.Register.the-variants.{X, Y, U}
 use Rattle.execution.specs.declared.places.Half.{Half}
-use Rattle.execution.specs.declared.places.Half.the-variants.{High, Low, None}
+use Rattle.execution.specs.declared.places.Half.the-variants.{High, Low, Missing}
 use Rattle.execution.specs.declared.places.Place.{Place}
-use Rattle.execution.specs.declared.places.Place.the-variants.{Half as HalfAt, Pointer, Fixed, InCode}
+use Rattle.execution.specs.declared.places.Place.the-variants.{InHalf, Pointer, Fixed, InCode}
 use Rattle.execution.specs.declared.instructions.Operation.{Operation}
 use Rattle.execution.specs.declared.instructions.Operation.the-variants.{Sbc, Adc, Lda, Cpa, And, Ora, Dcs, Dca, Eor, Bit}
 use Rattle.execution.specs.declared.instructions.Change.{Change}
-use Rattle.execution.specs.declared.instructions.Change.the-variants.{And as AndByte, Ora as OraByte, Add as AddByte}
+use Rattle.execution.specs.declared.instructions.Change.the-variants.{Ani, Ori, Adi}
 use Rattle.execution.specs.declared.instructions.Condition.{Condition}
 use Rattle.execution.specs.declared.instructions.Word.{Word}
 use Rattle.execution.specs.declared.instructions.Word.the-variants.{Of, S, P}
 use Rattle.execution.specs.declared.instructions.Accumulator.{Accumulator}
-use Rattle.execution.specs.declared.instructions.Accumulator.the-variants.{Inc as IncA, Dec as DecA, Ror, Shr, Shl, Rol, Aex, Tta, Att, Ita, Am0, Am1}
+use Rattle.execution.specs.declared.instructions.Accumulator.the-variants.{IncA, DecA, Ror, Shr, Shl, Rol, Aex, Tta, Att, Ita, Am0, Am1}
 use Rattle.execution.specs.declared.instructions.Signal.{Signal}
-use Rattle.execution.specs.declared.instructions.Signal.the-variants.{Pu, Pv, Disp, Carry as CarryFlag, InterruptEnable}
+use Rattle.execution.specs.declared.instructions.Signal.the-variants.{Pu, Pv, Disp, CarryFlag, InterruptEnable}
 use Rattle.execution.specs.declared.instructions.Instruction.{Instruction}
-use Rattle.execution.specs.declared.instructions.Instruction.the-variants.{Alu, Sta, Memory, Bii, Drr, Drl, Load, Compare, Inc, Dec, IncWord, DecWord, Sin, Sde, Lin, Lde, Branch, Lop, VectorIf, Vector, Jmp, Sjp, Rtn, Rti, LoadS, Tin, Cin, Accumulator as OnA, Signal as Sets, PopWord, PushWord, PopA, PushA, ToX, FromX, DropWord, Adr, Off, Hlt, Cdv, Nop}
+use Rattle.execution.specs.declared.instructions.Instruction.the-variants.{Alu, Sta, Memory, Bii, Drr, Drl, Load, Compare, Inc, Dec, IncWord, DecWord, Sin, Sde, Lin, Lde, Branch, Lop, VectorIf, Vector, Jmp, Sjp, Rtn, Rti, LoadS, Tin, Cin, OnA, Sets, PopWord, PushWord, PopA, PushA, ToX, FromX, DropWord, Adr, Off, Hlt, Cdv, Nop}
 use Rattle.execution.specs.Places.{wordIn, withWord, withHalf}
 use Rattle.execution.specs.Instructions.{operated, changedOf, aluOf, storeOf, staOf, memoryOf, biiOf, drrOf, drlOf, loadOf, compareOf, incHalfOf, decHalfOf, incWordOf, decWordOf, storeAtOf, loadAtOf, sinOf, sdeOf, linOf, ldeOf, holdsOf, branchedOf, branchOf, lopOf, vectorOf, vectorIfOf, jmpOf, sjpOf, rtnOf, rtiOf, loadSOf, tinOf, cinOf, onAOf, signalOf, popToOf, pushFromOf, toXOf, fromXOf, adrInOf, cdvOf, dropWordOf, executeOf}
 use Rattle.execution.specs.States.{amount, branch, addedOf}
@@ -99,7 +99,7 @@ module _ (m : Lh5801) where
   keeps-half : (h : Half) (v : ℕ) → statusOf (withHalf m h v) ≡ statusOf m
   keeps-half (High r) v = keeps-word r _
   keeps-half (Low r) v = keeps-word r _
-  keeps-half None v = refl
+  keeps-half Missing v = refl
 
   keeps-operated : (o : Operation) (v : ℕ) → statusOf (operated m o v) ≡ statusOf m
   keeps-operated Sbc v = keeps-sbc m v
@@ -114,9 +114,9 @@ module _ (m : Lh5801) where
   keeps-operated Bit v = keeps-bit m (m .a) v
 
   changed-enable : (o : Change) (b v : ℕ) → Enabled (changedOf (m .t) o b v .t) (m .t)
-  changed-enable AndByte b v = z-enable (m .t) (eqb (bitAnd b v) 0)
-  changed-enable OraByte b v = z-enable (m .t) (eqb (bitOr b v) 0)
-  changed-enable AddByte b v = add-enable (m .t) b v false
+  changed-enable Ani b v = z-enable (m .t) (eqb (bitAnd b v) 0)
+  changed-enable Ori b v = z-enable (m .t) (eqb (bitOr b v) 0)
+  changed-enable Adi b v = add-enable (m .t) b v false
 
   keeps-to-x : (w : Word) → statusOf (toXOf m w) ≡ statusOf m
   keeps-to-x (Of r) = keeps-x m _
@@ -175,7 +175,7 @@ module _ (m : Lh5801) where
 
   effect-sta : (place : Place) → Always (Effect m 0 true) (staOf m place)
   unfolding staOf
-  effect-sta (HalfAt h) = kept _ (keeps-half h (m .a))
+  effect-sta (InHalf h) = kept _ (keeps-half h (m .a))
   effect-sta (Pointer page r) = effect-store (Pointer page r)
   effect-sta (Fixed page) = effect-store (Fixed page)
   effect-sta InCode = effect-store InCode

@@ -98,7 +98,7 @@ abbrev entryFits : Decoded → Bool
 entryFits (Listed i n) = placeFits i
 entryFits Unlisted = true
 
--- no entry of either table uses another place
+-- no entry of either table uses a place that its instruction has no meaning for
 pub listed-places : (byte : ℕ) {i : Instruction} {n : ℕ} → decoded byte ≡ Listed i n → T (placeFits i)
 unfolding decoded
 listed-places byte e = entry-at entryFits decoded tt tt (past-rows rows refl) byte e

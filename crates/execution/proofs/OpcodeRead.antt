@@ -11,8 +11,13 @@ use Rattle.pages.specs.Stack.{up16, readopOf}
 use Rattle.pages.specs.Contract.{Does}
 use Rattle.pages.proofs.Exec.{bind-answer}
 use Rattle.pages.proofs.Does.{does-then, does-done, does-readop}
+use Rattle.execution.specs.declared.Fetched.{Fetched}
 use Rattle.execution.specs.Step.{fetched, decodedBy, fetchOf, decodedStepOf, instructionOf}
-use Rattle.execution.specs.Conditions.{opcodeAt}
+
+-- the opcode that the pages hold at p
+abbrev pub opcodeAt : Pages → ℕ → Fetched
+opcodeAt pages p =
+    cond (eqb (at pages p) 0xFD) (fetched true (at pages (up16 p)) (up16 (up16 p))) (fetched false (at pages p) (up16 p))
 
 -- it is read from the pages, and they stay
 pub fetch-does : (pages : Pages) (p : ℕ) → Does (fetchOf p) pages (opcodeAt pages p) pages
@@ -25,7 +30,7 @@ fetch-does pages p = does-then _ (does-readop p) (go (eqb (at pages p) 0xFD))
     go true = does-then _ (does-readop (up16 p)) (does-done refl)
     go false = does-done refl
 
--- what an instruction comes to: what is decoded from the pages is obeyed, on the same pages
+-- what an instruction comes to: what the bytes of the pages decode to, executed on the same pages
 pub instruction-answer : (m : Lh5801) (inputs : Inputs) (pages : Pages)
     → exec (instructionOf m inputs) pages .answer
     ≡ exec (decodedStepOf m inputs (opcodeAt pages (m .p)) (decodedBy (opcodeAt pages (m .p) .fd) (opcodeAt pages (m .p) .byte))) pages .answer

@@ -18,9 +18,9 @@ use Rattle.pages.proofs.Exec.{bind-done}
 use Rattle.execution.specs.declared.places.Register.{Register}
 use Rattle.execution.specs.declared.places.Register.the-variants.{X, Y, U}
 use Rattle.execution.specs.declared.places.Half.{Half}
-use Rattle.execution.specs.declared.places.Half.the-variants.{High, Low, None}
+use Rattle.execution.specs.declared.places.Half.the-variants.{High, Low, Missing}
 use Rattle.execution.specs.declared.places.Place.{Place}
-use Rattle.execution.specs.declared.places.Place.the-variants.{Half as HalfAt, Pointer, Fixed, InCode}
+use Rattle.execution.specs.declared.places.Place.the-variants.{InHalf, Pointer, Fixed, InCode}
 use Rattle.execution.specs.declared.places.Located.{Located}
 use Rattle.execution.specs.Places.{wordIn, withWord, halfIn, locateOf, operandOf}
 use Rattle.execution.specs.Code.Operands.{chosen, registerOf, registerAt, halfOf, fixedAt, locateAt, operandAt}
@@ -48,20 +48,20 @@ word-set m U w = only-u m w
 pub half-in : (m : Lh5801) (h : Half) → halfOf (wordIn m (registerOf h)) h ≡ halfIn m h
 half-in m (High r) = refl
 half-in m (Low r) = refl
-half-in m None = refl
+half-in m Missing = refl
 
 locate-at : (m : Lh5801) (place : Place) → locateAt (wordIn m (registerAt place)) (m .p) place ≡ locateOf m place
 unfolding locateAt locateOf fixedAt
-locate-at m (HalfAt h) = refl
+locate-at m (InHalf h) = refl
 locate-at m (Pointer page r) = refl
 locate-at m (Fixed page) = refl
 locate-at m InCode = refl
 
 operand-at : (m : Lh5801) (place : Place) → operandAt (wordIn m (registerAt place)) (m .p) place ≡ operandOf m place
 unfolding operandAt operandOf fixedAt
-operand-at m (HalfAt (High r)) = refl
-operand-at m (HalfAt (Low r)) = refl
-operand-at m (HalfAt None) = refl
+operand-at m (InHalf (High r)) = refl
+operand-at m (InHalf (Low r)) = refl
+operand-at m (InHalf Missing) = refl
 operand-at m (Pointer page r) = refl
 operand-at m (Fixed page) = bind-done (readopWordOf (m .p)) _ _
 operand-at m InCode = refl

@@ -9,7 +9,7 @@ use Rattle.arithmetic.specs.Shifts.{loopedOf}
 use Rattle.arithmetic.specs.Record.{with-u, with-p, with-ir1, with-ir2, with-is-timer-reached}
 use Rattle.arithmetic.specs.Flags.{IE, hasFlag}
 use Rattle.pages.specs.Pages.{Pages}
-use Rattle.arithmetic.proofs.Status.{Status, requested, times-ir1, times-ir2}
+use Rattle.arithmetic.proofs.Status.{Status, requested, requested-back, requested-same, times-ir1, times-ir2}
 use Rattle.pages.specs.Prog.{done, mapped}
 use Rattle.pages.specs.Contract.{Does}
 use Rattle.pages.specs.Stack.{acceptOf}
@@ -27,14 +27,13 @@ use Rattle.execution.specs.declared.Outcome.{Outcome}
 use Rattle.execution.specs.declared.Outcome.the-variants.{Completed, Stopped}
 use Rattle.execution.specs.Instructions.{branchedOf, executeOf}
 use Rattle.execution.specs.States.{addedOf}
-use Rattle.execution.specs.Step.{off, held, interrupt, instruction, StepEnd, did, stopped, outcomeOf, fetchOf, decodedBy, unlistedBy, decodedStepOf, instructionOf, interruptOf, reachedOf, poweredOf, stepOf}
+use Rattle.execution.specs.Step.{off, held, interrupt, instruction, StepEnd, did, stopped, fetchOf, decodedBy, unlistedBy, decodedStepOf, instructionOf, interruptOf, reachedOf, poweredOf, stepOf}
+use Rattle.execution.specs.Code.Outcomes.{outcomeOf}
 use Rattle.execution.specs.Code.Due.{dueBy, dueOf, Ready, settledOf, settledBy, executedAs, executedOf}
 use Rattle.execution.proofs.Effects.{dueIn}
 use Rattle.execution.proofs.Choices.{cond-both, cond-true, cond-false}
 use Rattle.execution.proofs.Tests.{reached-same, unheld}
 use Rattle.execution.proofs.DueTest.{due-is}
-
--- a choice by a test that is known is made by `cond-true` and `cond-false`: `rw` with the test would change the record's field too
 
 -- LOP, by what its count gave
 module _ (m : Lh5801) (p offset : ℕ) where
@@ -60,7 +59,7 @@ module _ (m : Lh5801) where
   unfolding reachedOf
   reached-stays e = cond-false _ (with-is-timer-reached (with-ir1 m true) false) m e
 
--- which keeps TM
+-- timer reached moving to IR1 keeps TM
 pub reached-tm : (m : Lh5801) → reachedOf m .tm ≡ m .tm
 reached-tm m = reached-same m (λ k. k .tm) (ap (λ (s : Status). s .tm) (requested m true false .is))
 
@@ -86,7 +85,7 @@ test-moved : (bf ir0 ir1 ir2 e h : Bool) → dueBy bf ir0 true false ir2 e h ≡
 test-moved bf ir0 true ir2 e h = refl
 test-moved bf ir0 false ir2 e h = refl
 
--- the slow path by its tests: an enabled request is accepted, IR1 before IR2, or none is
+-- a step in which no instruction is due, by its tests: an enabled request is accepted, IR1 before IR2, or none is
 module _ {A B : Type 0} (f : B → ℕ → A) (a d : A) (x y : B) where
   some-request : (ir0 ir1 ir2 e : Bool) → ir0 ≡ false → ((ir1 || ir2) && e) ≡ true
       → cond ir0 a (cond (ir1 && e) (f x 0xFFFA) (cond (ir2 && e) (f y 0xFFF8) d)) ≡ f (cond ir1 x y) (cond ir1 0xFFFA 0xFFF8)
@@ -139,7 +138,7 @@ module _ (m : Lh5801) (inputs : Inputs) (on : m .bf ≡ true) (clear : m .«is_t
         rw (step-powered, ← enabled, no-request interruptOf (done (did (timerPartOf m) 0 held)) (cond (m .«is_halted») (done (stopped Halted)) (instructionOf m inputs)) (with-ir1 m false) (with-ir2 m false) (m .ir0) (m .ir1) (m .ir2) e free b, cond-true _ (done (stopped Halted)) (instructionOf m inputs) h)
         (does-mapped outcomeOf {r = stopped Halted} (does-done refl))
 
--- where an instruction is due, the step is its
+-- where an instruction is due, the step is that instruction's
 pub step-due : (m : Lh5801) (inputs : Inputs) → Ready m → stepOf m inputs ≡ instructionOf m inputs
 step-due m inputs h =
     let d = due-is m .0 (h .due) in
@@ -173,6 +172,13 @@ module _ (m : Lh5801) where
 
   pub reached-ready : dueOf m ≡ true → Ready (reachedOf m)
   reached-ready h = record { due = reached-due ∙ h; clear = reached-clear }
+
+  -- IR1 and timer reached set back: the record that it was
+  pub reached-back : with-is-timer-reached (with-ir1 (reachedOf m) (m .ir1)) (m .«is_timer_reached») ≡ m
+  unfolding reachedOf
+  reached-back =
+      cond-both (λ (k : Lh5801). with-is-timer-reached (with-ir1 k (m .ir1)) (m .«is_timer_reached») ≡ m) (m .«is_timer_reached») _ m
+      (requested-back m true false) (requested-same m)
 
   pub step-reached : (inputs : Inputs) → m .bf ≡ true → stepOf (reachedOf m) inputs ≡ stepOf m inputs
   unfolding stepOf

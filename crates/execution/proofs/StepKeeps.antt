@@ -38,45 +38,45 @@ added-any-p m p i = rw (taken-any-p m p (addsOf i))
 
 -- the counters after e states
 abbrev Counted : Lh5801 → ℕ → Lh5801 → Type 0
-Counted m e k = (k .tm < 512) × (k .ticks % 2 ^ 64 ≡ (m .ticks + e) % 2 ^ 64)
+Counted m e k = (m .tm < 512 → k .tm < 512) × (k .ticks % 2 ^ 64 ≡ (m .ticks + e) % 2 ^ 64)
 
 -- the counters of m after a completed step
 abbrev CountedEnd : Lh5801 → StepEnd → Type 0
 CountedEnd m = Did (λ k n kind. Counted m n k)
 
-module _ (m : Lh5801) (small : m .tm < 512) (inputs : Inputs) where
+module _ (m : Lh5801) (inputs : Inputs) where
   -- over the timer part, over states that pass, from m's own counters, and over an instruction
   counted-timer : (k : Lh5801) (n : ℕ) → Counted m n k → Counted m n (timerPartOf k)
-  counted-timer k n h = (timer-part-small k (h .0), rw (ap (λ (s : Status). s .ticks) (timer-part-status k)) (h .1))
+  counted-timer k n h = (λ l. timer-part-small k (h .0 l), rw (ap (λ (s : Status). s .ticks) (timer-part-status k)) (h .1))
 
   counted-states : (k : Lh5801) (n e : ℕ) → Counted m e k → Counted m (n + e) (addStateOf k n)
   counted-states k n e h = (
-    rw (ap (λ (s : Status). s .tm) (states-status k n)) (h .0),
+    λ l. rw (ap (λ (s : Status). s .tm) (states-status k n)) (h .0 l),
     omega (arith, ap (λ (s : Status). s .ticks) (states-status k n), h .1),
   )
 
   counted-same : (k : Lh5801) → SameTimes m k → Counted m 0 k
-  counted-same k s = (rw (s .tm) small, omega (arith, s .ticks))
+  counted-same k s = (λ l. rw (s .tm) l, omega (arith, s .ticks))
 
   counted-effect : (k r : Lh5801) (e : ℕ) (b : Bool) → SameTimes m k → Effect k e b r → Counted m e r
-  counted-effect k r e b s f = (f .small (rw (s .tm) small), f .ticks ∙ ap (λ (n : ℕ). (n + e) % 2 ^ 64) (s .ticks))
+  counted-effect k r e b s f = (λ l. f .small (rw (s .tm) l), f .ticks ∙ ap (λ (n : ℕ). (n + e) % 2 ^ 64) (s .ticks))
 
   -- from a record with m's counters
   counted-interrupt : (k : Lh5801) → SameTimes m k → (at : ℕ) → Always (CountedEnd m) (interruptOf k at)
   unfolding interruptOf
   counted-interrupt k s at = always-bind _ _ (acceptOf k at) _ (accept-times k at) (λ r t. counted-timer r 0 (counted-same r (times-then s t)))
 
-  counted-obeyed : (k : Lh5801) → SameTimes m k → (o : Fetched) (d : Decoded) → Always (CountedEnd m) (decodedStepOf k inputs o d)
+  counted-decoded : (k : Lh5801) → SameTimes m k → (o : Fetched) (d : Decoded) → Always (CountedEnd m) (decodedStepOf k inputs o d)
   unfolding decodedStepOf
-  counted-obeyed k s o (Listed i n) =
+  counted-decoded k s o (Listed i n) =
       always-bind _ _ (executeOf (with-p k (o .p)) inputs i) _ (executed (with-p k (o .p)) inputs i)
       (λ r f. counted-timer (addStateOf r n) _ (rw (added-any-p k (o .p) i) at
       (counted-states r n _ (counted-effect (with-p k (o .p)) r _ _ (times-then s (times-status k _ (keeps-p k (o .p)))) f))))
-  counted-obeyed k s o Unlisted = tt
+  counted-decoded k s o Unlisted = tt
 
   counted-instruction : (k : Lh5801) → SameTimes m k → Always (CountedEnd m) (instructionOf k inputs)
   unfolding instructionOf
-  counted-instruction k s = always-then _ (fetchOf (k .p)) _ (λ o. counted-obeyed k s o (decodedBy (o .fd) (o .byte)))
+  counted-instruction k s = always-then _ (fetchOf (k .p)) _ (λ o. counted-decoded k s o (decodedBy (o .fd) (o .byte)))
 
   counted-powered : (k : Lh5801) → SameTimes m k → Always (CountedEnd m) (poweredOf k inputs)
   counted-powered k s =
@@ -97,11 +97,10 @@ pub step-small : (m : Lh5801) (inputs : Inputs) → m .tm < 512
     → (pages : Pages) (k : Lh5801) (s : ℕ) (kind : Kind)
     → exec (stepOf m inputs) pages .answer ≡ did k s kind
     → k .tm < 512
-step-small m inputs small pages k s kind e = did-exec _ (stepOf m inputs) (counted-step m small inputs) pages k s kind e .0
+step-small m inputs small pages k s kind e = did-exec _ (stepOf m inputs) (counted-step m inputs) pages k s kind e .0 small
 
 -- a completed step adds its states to the ticks, on 64 bits
-pub step-ticks : (m : Lh5801) (inputs : Inputs) → m .tm < 512
-    → (pages : Pages) (k : Lh5801) (s : ℕ) (kind : Kind)
+pub step-ticks : (m : Lh5801) (inputs : Inputs) (pages : Pages) (k : Lh5801) (s : ℕ) (kind : Kind)
     → exec (stepOf m inputs) pages .answer ≡ did k s kind
     → k .ticks % 2 ^ 64 ≡ (m .ticks + s) % 2 ^ 64
-step-ticks m inputs small pages k s kind e = did-exec _ (stepOf m inputs) (counted-step m small inputs) pages k s kind e .1
+step-ticks m inputs pages k s kind e = did-exec _ (stepOf m inputs) (counted-step m inputs) pages k s kind e .1

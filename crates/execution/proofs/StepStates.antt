@@ -44,15 +44,15 @@ listed-by : (fd : Bool) (byte : ℕ) (i : Instruction) (n : ℕ) → decodedBy f
 listed-by true byte i n e = listed-states-fd byte e
 listed-by false byte i n e = listed-states byte e
 
-fits-obeyed : (m : Lh5801) (inputs : Inputs) (o : Fetched) (d : Decoded) → decodedBy (o .fd) (o .byte) ≡ d → Always Fits (decodedStepOf m inputs o d)
+fits-decoded : (m : Lh5801) (inputs : Inputs) (o : Fetched) (d : Decoded) → decodedBy (o .fd) (o .byte) ≡ d → Always Fits (decodedStepOf m inputs o d)
 unfolding decodedStepOf
-fits-obeyed m inputs o (Listed i n) e = always-then Fits (executeOf (with-p m (o .p)) inputs i) _
+fits-decoded m inputs o (Listed i n) e = always-then Fits (executeOf (with-p m (o .p)) inputs i) _
     (λ k. (omega (arith, listed-by (o .fd) (o .byte) i n e), omega (arith, listed-by (o .fd) (o .byte) i n e, added-most m i)))
-fits-obeyed m inputs o Unlisted e = tt
+fits-decoded m inputs o Unlisted e = tt
 
 fits-instruction : (m : Lh5801) (inputs : Inputs) → Always Fits (instructionOf m inputs)
 unfolding instructionOf
-fits-instruction m inputs = always-then Fits (fetchOf (m .p)) _ (λ o. fits-obeyed m inputs o (decodedBy (o .fd) (o .byte)) refl)
+fits-instruction m inputs = always-then Fits (fetchOf (m .p)) _ (λ o. fits-decoded m inputs o (decodedBy (o .fd) (o .byte)) refl)
 
 fits-powered : (m : Lh5801) (inputs : Inputs) → Always Fits (poweredOf m inputs)
 fits-powered m inputs =

@@ -18,30 +18,30 @@ use Rattle.execution.specs.declared.instructions.Decoded.{Decoded}
 use Rattle.execution.specs.declared.instructions.Decoded.the-variants.{Listed, Unlisted}
 use Rattle.execution.specs.declared.Fetched.{Fetched}
 use Rattle.execution.specs.declared.Stop.{Stop}
-use Rattle.execution.specs.declared.Stop.the-variants.{Unlisted as UnlistedByte, UnlistedFd, Halted}
+use Rattle.execution.specs.declared.Stop.the-variants.{UnlistedFirst, UnlistedFd, Halted}
 use Rattle.execution.specs.Opcodes.{decoded}
 use Rattle.execution.specs.OpcodesFd.{decodedFd}
 use Rattle.execution.specs.Listed.{isListed, listedFirst}
 use Rattle.execution.specs.Step.{StepEnd, did, stopped, fetched, decodedBy, unlistedBy, decodedStepOf, reachedOf, stepOf}
-use Rattle.execution.specs.Conditions.{accepted, HaltedStop, Due, firstByte, secondByte, FirstUnlisted, SecondUnlisted, opcodeAt, Completes, NoStop}
-use Rattle.execution.proofs.OpcodeRead.{instruction-answer}
+use Rattle.execution.specs.Conditions.{accepted, HaltedStop, Due, firstByte, secondByte, FirstUnlisted, SecondUnlisted, Completes, NoStop}
+use Rattle.execution.proofs.OpcodeRead.{opcodeAt, instruction-answer}
 use Rattle.execution.proofs.StopsClean.{IsDid, did-listed}
 use Rattle.execution.proofs.Choices.{none-left, none-right, cond-true, cond-false}
 use Rattle.execution.proofs.Tests.{reached-p, off-step, held-step, unheld, accepted-step}
 
 -- what a decoded opcode comes to
-obeyed : Lh5801 → Inputs → Pages → Fetched → StepEnd
-obeyed m inputs pages o = exec (decodedStepOf m inputs o (decodedBy (o .fd) (o .byte))) pages .answer
+decodedEnd : Lh5801 → Inputs → Pages → Fetched → StepEnd
+decodedEnd m inputs pages o = exec (decodedStepOf m inputs o (decodedBy (o .fd) (o .byte))) pages .answer
 
-obeyed-unlisted : (m : Lh5801) (inputs : Inputs) (pages : Pages) (o : Fetched) → decodedBy (o .fd) (o .byte) ≡ Unlisted
-    → obeyed m inputs pages o ≡ stopped (unlistedBy (o .fd) (o .byte))
-unfolding obeyed decodedStepOf
-obeyed-unlisted m inputs pages o e = ap (λ d. exec (decodedStepOf m inputs o d) pages .answer) e ∙ done-answer _ pages
+end-unlisted : (m : Lh5801) (inputs : Inputs) (pages : Pages) (o : Fetched) → decodedBy (o .fd) (o .byte) ≡ Unlisted
+    → decodedEnd m inputs pages o ≡ stopped (unlistedBy (o .fd) (o .byte))
+unfolding decodedEnd decodedStepOf
+end-unlisted m inputs pages o e = ap (λ d. exec (decodedStepOf m inputs o d) pages .answer) e ∙ done-answer _ pages
 
-obeyed-listed : (m : Lh5801) (inputs : Inputs) (pages : Pages) (o : Fetched) (i : Instruction) (n : ℕ) → decodedBy (o .fd) (o .byte) ≡ Listed i n
-    → IsDid (obeyed m inputs pages o)
-unfolding obeyed
-obeyed-listed m inputs pages o i n e =
+end-listed : (m : Lh5801) (inputs : Inputs) (pages : Pages) (o : Fetched) (i : Instruction) (n : ℕ) → decodedBy (o .fd) (o .byte) ≡ Listed i n
+    → IsDid (decodedEnd m inputs pages o)
+unfolding decodedEnd
+end-listed m inputs pages o i n e =
     subst (λ d. IsDid (exec (decodedStepOf m inputs o d) pages .answer)) (sym e)
     (always-exec IsDid (decodedStepOf m inputs o (Listed i n)) (did-listed m inputs o i n) pages)
 
@@ -78,24 +78,24 @@ module _ (m : Lh5801) (inputs : Inputs) (pages : Pages) where
   halted-answer h =
       ap (λ p. exec p pages .answer) (unheld m inputs (h .on) (h .free) (h .none) ∙ cond-true (m .«is_halted») _ _ (h .halted)) ∙ done-answer _ pages
 
-  due-answer : Due m → (o : Fetched) → opcodeAt pages (m .p) ≡ o → answer ≡ obeyed (reachedOf m) inputs pages o
-  unfolding answer obeyed
+  due-answer : Due m → (o : Fetched) → opcodeAt pages (m .p) ≡ o → answer ≡ decodedEnd (reachedOf m) inputs pages o
+  unfolding answer decodedEnd
   due-answer d o e =
       ap (λ p. exec p pages .answer) (unheld m inputs (d .on) (d .free) (d .none) ∙ cond-false (m .«is_halted») _ _ (d .running))
       ∙ instruction-answer (reachedOf m) inputs pages
-      ∙ ap (obeyed (reachedOf m) inputs pages) (ap (opcodeAt pages) (reached-p m) ∙ e)
+      ∙ ap (decodedEnd (reachedOf m) inputs pages) (ap (opcodeAt pages) (reached-p m) ∙ e)
 
-  first-answer : (b : ℕ) → FirstUnlisted m pages b → answer ≡ stopped (UnlistedByte b)
+  first-answer : (b : ℕ) → FirstUnlisted m pages b → answer ≡ stopped (UnlistedFirst b)
   first-answer b f =
       let o : Fetched = fetched false b (up16 (m .p)) in
       due-answer (f .due) o (opcode-first pages (m .p) b (f .first) (first-not-fd b (f .unlisted)))
-      ∙ obeyed-unlisted (reachedOf m) inputs pages o (first-no-entry b (f .unlisted))
+      ∙ end-unlisted (reachedOf m) inputs pages o (first-no-entry b (f .unlisted))
 
   second-answer : (b : ℕ) → SecondUnlisted m pages b → answer ≡ stopped (UnlistedFd b)
   second-answer b f =
       let o : Fetched = fetched true b (up16 (up16 (m .p))) in
       due-answer (f .due) o (opcode-second pages (m .p) b (f .first) (f .second))
-      ∙ obeyed-unlisted (reachedOf m) inputs pages o (no-entry (decodedFd b) (f .unlisted))
+      ∙ end-unlisted (reachedOf m) inputs pages o (no-entry (decodedFd b) (f .unlisted))
 
   -- one of the conditions holds, or the step is completed
   data Case : Type 0 where
@@ -107,13 +107,13 @@ module _ (m : Lh5801) (inputs : Inputs) (pages : Pages) where
   case-first : Due m → (b : ℕ) → firstByte m pages ≡ b → ¬ (b ≡ 0xFD) → (d : Decoded) → decoded b ≡ d → Case
   case-first due b f h (Listed i n) e =
       let o : Fetched = fetched false b (up16 (m .p)) in
-      isCompleted (subst IsDid (sym (due-answer due o (opcode-first pages (m .p) b f h))) (obeyed-listed (reachedOf m) inputs pages o i n e))
+      isCompleted (subst IsDid (sym (due-answer due o (opcode-first pages (m .p) b f h))) (end-listed (reachedOf m) inputs pages o i n e))
   case-first due b f h Unlisted e = isFirst b (record { due = due; first = f; unlisted = first-unlisted b h e })
 
   case-second : Due m → firstByte m pages ≡ 0xFD → (b : ℕ) → secondByte m pages ≡ b → (d : Decoded) → decodedFd b ≡ d → Case
   case-second due h b f (Listed i n) e =
       let o : Fetched = fetched true b (up16 (up16 (m .p))) in
-      isCompleted (subst IsDid (sym (due-answer due o (opcode-second pages (m .p) b h f))) (obeyed-listed (reachedOf m) inputs pages o i n e))
+      isCompleted (subst IsDid (sym (due-answer due o (opcode-second pages (m .p) b h f))) (end-listed (reachedOf m) inputs pages o i n e))
   case-second due h b f Unlisted e = isSecond b (record { due = due; first = h; second = f; unlisted = ap isListed e })
 
   case-due : Due m → Case
@@ -146,11 +146,11 @@ module _ (m : Lh5801) (inputs : Inputs) (pages : Pages) where
       go (isCompleted d) e = absurd (subst IsDid e d)
 
   -- 5, with the byte
-  pub stops-5 : (b : ℕ) → (exec (stepOf m inputs) pages .answer ≡ stopped (UnlistedByte b)) ↔ FirstUnlisted m pages b
+  pub stops-5 : (b : ℕ) → (exec (stepOf m inputs) pages .answer ≡ stopped (UnlistedFirst b)) ↔ FirstUnlisted m pages b
   unfolding answer
   stops-5 b = (λ e. go case-of e, first-answer b)
     where
-      go : Case → answer ≡ stopped (UnlistedByte b) → FirstUnlisted m pages b
+      go : Case → answer ≡ stopped (UnlistedFirst b) → FirstUnlisted m pages b
       go (isHalted h) e = absurd (let z : _≡_ {A = ℕ} 0 1 = cc (halted-answer h) in omega arith)
       go (isFirst c f) e = let z : c ≡ b = cc (first-answer c f) in rw z at f
       go (isSecond c f) e = absurd (let z : _≡_ {A = ℕ} 0 1 = cc (second-answer c f) in omega arith)
@@ -180,7 +180,7 @@ module _ (m : Lh5801) (inputs : Inputs) (pages : Pages) where
   completes = (
     λ c. record {
       seven = λ h. never-both Halted c (halted-answer h);
-      five = λ b f. never-both (UnlistedByte b) c (first-answer b f);
+      five = λ b f. never-both (UnlistedFirst b) c (first-answer b f);
       six = λ b f. never-both (UnlistedFd b) c (second-answer b f);
     },
     go case-of,

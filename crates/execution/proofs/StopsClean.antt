@@ -41,14 +41,14 @@ pub did-interrupt : (m : Lh5801) (vector : ℕ) → Always IsDid (interruptOf m 
 unfolding interruptOf
 did-interrupt m vector = always-then IsDid (acceptOf m vector) _ (λ k. tt)
 
-clean-obeyed : (m : Lh5801) (inputs : Inputs) (o : Fetched) (d : Decoded) → Clean IsDid (decodedStepOf m inputs o d)
+clean-decoded : (m : Lh5801) (inputs : Inputs) (o : Fetched) (d : Decoded) → Clean IsDid (decodedStepOf m inputs o d)
 unfolding decodedStepOf
-clean-obeyed m inputs o (Listed i n) = clean-always IsDid (decodedStepOf m inputs o (Listed i n)) (did-listed m inputs o i n)
-clean-obeyed m inputs o Unlisted = tt
+clean-decoded m inputs o (Listed i n) = clean-always IsDid (decodedStepOf m inputs o (Listed i n)) (did-listed m inputs o i n)
+clean-decoded m inputs o Unlisted = tt
 
 clean-instruction : (m : Lh5801) (inputs : Inputs) → Clean IsDid (instructionOf m inputs)
 unfolding instructionOf
-clean-instruction m inputs = clean-after IsDid (fetchOf (m .p)) _ (reads-fetch (m .p)) (λ o. clean-obeyed m inputs o (decodedBy (o .fd) (o .byte)))
+clean-instruction m inputs = clean-after IsDid (fetchOf (m .p)) _ (reads-fetch (m .p)) (λ o. clean-decoded m inputs o (decodedBy (o .fd) (o .byte)))
 
 clean-powered : (m : Lh5801) (inputs : Inputs) → Clean IsDid (poweredOf m inputs)
 clean-powered m inputs =

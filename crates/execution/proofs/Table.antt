@@ -12,7 +12,7 @@ use Rattle.arithmetic.proofs.Compute.{both, both-left, both-right}
 use Rattle.execution.specs.declared.instructions.Decoded.{Decoded}
 use Rattle.execution.specs.declared.instructions.Decoded.the-variants.{Listed, Unlisted}
 use Rattle.execution.specs.Code.Chain.{chained, orElse, column}
-use Rattle.execution.specs.OpcodesFd.{none}
+use Rattle.execution.specs.OpcodesFd.{emptyRow}
 
 -- no row has more than 16 entries
 abbrev pub short : List (List Decoded) → Bool
@@ -114,9 +114,9 @@ unfolding chained
 nothing i byte = refl
 
 -- a row that lists nothing may be left out: rows 7 and F after FD
-blank : (k : ℕ) → getD none k Unlisted ≡ Unlisted
-blank k = sym (default Unlisted none [] 16 k refl tt)
+blank : (k : ℕ) → getD emptyRow k Unlisted ≡ Unlisted
+blank k = sym (default Unlisted emptyRow [] 16 k refl tt)
 
-pub skip : (rest : List (List Decoded)) (i byte : ℕ) → chained rest (suc i) byte ≡ chained (none ∷ rest) i byte
+pub skip : (rest : List (List Decoded)) (i byte : ℕ) → chained rest (suc i) byte ≡ chained (emptyRow ∷ rest) i byte
 unfolding chained
 skip rest i byte = sym (ap (λ (d : Decoded). orElse d (chained rest (suc i) byte)) (blank (column i byte)))

@@ -2,3 +2,4 @@
 pub mod Chain
 pub mod Operands
 pub mod Due
+pub mod Outcomes

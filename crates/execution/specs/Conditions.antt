@@ -1,15 +1,13 @@
 -- The conditions of a step's stops, in document 01's words, on the record and the pages before the step.
 use Prim.Native.Nat.{ℕ}
-use mathlib.Core.Bool.{Bool, true, false, not, _&&_, _||_, cond}
+use mathlib.Core.Bool.{Bool, true, false, not, _&&_, _||_}
 use mathlib.Core.Path.{_≡_}
-use lib.Dec.{eqb}
 use Rattle.arithmetic.specs.declared.record.Lh5801.{Lh5801}
 use Rattle.arithmetic.specs.Flags.{IE, hasFlag}
 use Rattle.pages.specs.Pages.{Pages, at}
 use Rattle.pages.specs.Stack.{up16}
-use Rattle.execution.specs.declared.Fetched.{Fetched}
 use Rattle.execution.specs.Listed.{listedFirst, listedAfterFd}
-use Rattle.execution.specs.Step.{Kind, StepEnd, did, fetched}
+use Rattle.execution.specs.Step.{Kind, StepEnd, did}
 
 -- document 01's "accepted": BF set, IR0 clear, IE set, and IR1 set, timer reached, or IR2 set
 abbrev pub accepted : Lh5801 → Bool
@@ -48,11 +46,6 @@ pub record SecondUnlisted (m : Lh5801) (pages : Pages) (b : ℕ) : Type 0 where
   pub first : firstByte m pages ≡ 0xFD
   pub second : secondByte m pages ≡ b
   pub unlisted : listedAfterFd b ≡ false
-
--- the opcode that the pages hold at p
-abbrev pub opcodeAt : Pages → ℕ → Fetched
-opcodeAt pages p =
-    cond (eqb (at pages p) 0xFD) (fetched true (at pages (up16 p)) (up16 (up16 p))) (fetched false (at pages p) (up16 p))
 
 -- a completed step, with its record, states and kind
 pub record Completes (e : StepEnd) : Type 0 where

@@ -19,21 +19,21 @@ use Rattle.execution.specs.declared.places.Register.{Register}
 use Rattle.execution.specs.declared.places.Half.{Half}
 use Rattle.execution.specs.declared.places.Page.{Page}
 use Rattle.execution.specs.declared.places.Place.{Place}
-use Rattle.execution.specs.declared.places.Place.the-variants.{Half as HalfAt, Pointer, Fixed, InCode}
+use Rattle.execution.specs.declared.places.Place.the-variants.{InHalf, Pointer, Fixed, InCode}
 use Rattle.execution.specs.declared.instructions.Operation.{Operation}
 use Rattle.execution.specs.declared.instructions.Operation.the-variants.{Sbc, Adc, Lda, Cpa, And, Ora, Dcs, Dca, Eor, Bit}
 use Rattle.execution.specs.declared.instructions.Change.{Change}
-use Rattle.execution.specs.declared.instructions.Change.the-variants.{And as AndByte, Ora as OraByte, Add as AddByte}
+use Rattle.execution.specs.declared.instructions.Change.the-variants.{Ani, Ori, Adi}
 use Rattle.execution.specs.declared.instructions.Condition.{Condition}
-use Rattle.execution.specs.declared.instructions.Condition.the-variants.{NoCarry, Carry, NoHalf, Half as HalfCarry, NotZero, Zero, NoOverflow, Overflow, Always}
+use Rattle.execution.specs.declared.instructions.Condition.the-variants.{NoCarry, Carry, NoHalfCarry, HalfCarry, NotZero, Zero, NoOverflow, Overflow, Always}
 use Rattle.execution.specs.declared.instructions.Word.{Word}
 use Rattle.execution.specs.declared.instructions.Word.the-variants.{Of, S, P}
 use Rattle.execution.specs.declared.instructions.Accumulator.{Accumulator}
-use Rattle.execution.specs.declared.instructions.Accumulator.the-variants.{Inc as IncA, Dec as DecA, Ror, Shr, Shl, Rol, Aex, Tta, Att, Ita, Am0, Am1}
+use Rattle.execution.specs.declared.instructions.Accumulator.the-variants.{IncA, DecA, Ror, Shr, Shl, Rol, Aex, Tta, Att, Ita, Am0, Am1}
 use Rattle.execution.specs.declared.instructions.Signal.{Signal}
-use Rattle.execution.specs.declared.instructions.Signal.the-variants.{Pu, Pv, Disp, Carry as CarryFlag, InterruptEnable}
+use Rattle.execution.specs.declared.instructions.Signal.the-variants.{Pu, Pv, Disp, CarryFlag, InterruptEnable}
 use Rattle.execution.specs.declared.instructions.Instruction.{Instruction}
-use Rattle.execution.specs.declared.instructions.Instruction.the-variants.{Alu, Sta, Memory, Bii, Drr, Drl, Load, Compare, Inc, Dec, IncWord, DecWord, Sin, Sde, Lin, Lde, Branch, Lop, VectorIf, Vector, Jmp, Sjp, Rtn, Rti, LoadS, Tin, Cin, Accumulator as OnA, Signal as Sets, PopWord, PushWord, PopA, PushA, ToX, FromX, DropWord, Adr, Off, Hlt, Cdv, Nop}
+use Rattle.execution.specs.declared.instructions.Instruction.the-variants.{Alu, Sta, Memory, Bii, Drr, Drl, Load, Compare, Inc, Dec, IncWord, DecWord, Sin, Sde, Lin, Lde, Branch, Lop, VectorIf, Vector, Jmp, Sjp, Rtn, Rti, LoadS, Tin, Cin, OnA, Sets, PopWord, PushWord, PopA, PushA, ToX, FromX, DropWord, Adr, Off, Hlt, Cdv, Nop}
 use Rattle.execution.specs.Places.{wordIn, withWord, halfIn, withHalf, addressOf, locateOf, operandOf}
 
 -- A with an operand: SBC ADC LDA CPA AND ORA DCS DCA EOR BIT
@@ -54,24 +54,25 @@ aluOf m o place = do
   f ← operandOf m place
   done (operated (with-p m (f .p)) o (f .value))
 
--- STA: to a half, or to memory
+-- A to memory
 unfoldable pub storeOf : Lh5801 → Place → Prog Lh5801
 storeOf m place = do
   l ← locateOf m place
   _ ← write (l .addr) (m .a)
   done (with-p m (l .p))
 
+-- STA: to a half, or to memory
 unfoldable pub staOf : Lh5801 → Place → Prog Lh5801
-staOf m (HalfAt h) = done (withHalf m h (m .a))
+staOf m (InHalf h) = done (withHalf m h (m .a))
 staOf m (Pointer page r) = storeOf m (Pointer page r)
 staOf m (Fixed page) = storeOf m (Fixed page)
 staOf m InCode = storeOf m InCode
 
 -- a memory byte with an immediate, and T: ANI, ORI and ADI
 abbrev pub changedOf : ℕ → Change → ℕ → ℕ → Sum
-changedOf t AndByte b v = record { value = bitAnd b v; t = checkZ t (bitAnd b v) }
-changedOf t OraByte b v = record { value = bitOr b v; t = checkZ t (bitOr b v) }
-changedOf t AddByte b v = addOf t b v false
+changedOf t Ani b v = record { value = bitAnd b v; t = checkZ t (bitAnd b v) }
+changedOf t Ori b v = record { value = bitOr b v; t = checkZ t (bitOr b v) }
+changedOf t Adi b v = addOf t b v false
 
 -- address, immediate, read, write
 unfoldable pub memoryOf : Lh5801 → Change → Place → Prog Lh5801
@@ -163,7 +164,7 @@ ldeOf m r = do
 abbrev pub holdsOf : ℕ → Condition → Bool
 holdsOf t NoCarry = not (hasFlag t CF)
 holdsOf t Carry = hasFlag t CF
-holdsOf t NoHalf = not (hasFlag t HF)
+holdsOf t NoHalfCarry = not (hasFlag t HF)
 holdsOf t HalfCarry = hasFlag t HF
 holdsOf t NotZero = not (hasFlag t ZF)
 holdsOf t Zero = hasFlag t ZF

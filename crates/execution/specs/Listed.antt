@@ -6,9 +6,9 @@ use lib.Dec.{eqb}
 use Rattle.execution.specs.declared.instructions.Decoded.{Decoded}
 use Rattle.execution.specs.declared.instructions.Decoded.the-variants.{Listed, Unlisted}
 use Rattle.execution.specs.declared.instructions.Instruction.{Instruction}
-use Rattle.execution.specs.declared.instructions.Instruction.the-variants.{Alu, Sta, Memory, Bii, Drr, Drl, Load, Compare, Inc, Dec, IncWord, DecWord, Sin, Sde, Lin, Lde, Branch, Lop, VectorIf, Vector, Jmp, Sjp, Rtn, Rti, LoadS, Tin, Cin, Accumulator as OnA, Signal as Sets, PopWord, PushWord, PopA, PushA, ToX, FromX, DropWord, Adr, Off, Hlt, Cdv, Nop}
+use Rattle.execution.specs.declared.instructions.Instruction.the-variants.{Alu, Sta, Memory, Bii, Drr, Drl, Load, Compare, Inc, Dec, IncWord, DecWord, Sin, Sde, Lin, Lde, Branch, Lop, VectorIf, Vector, Jmp, Sjp, Rtn, Rti, LoadS, Tin, Cin, OnA, Sets, PopWord, PushWord, PopA, PushA, ToX, FromX, DropWord, Adr, Off, Hlt, Cdv, Nop}
 use Rattle.execution.specs.declared.places.Place.{Place}
-use Rattle.execution.specs.declared.places.Place.the-variants.{Half as HalfAt, Pointer, Fixed, InCode}
+use Rattle.execution.specs.declared.places.Place.the-variants.{InHalf, Pointer, Fixed, InCode}
 use Rattle.execution.specs.Opcodes.{decoded}
 use Rattle.execution.specs.OpcodesFd.{decodedFd}
 
@@ -35,20 +35,20 @@ bytesWhere test = passing test 0 256
 
 -- the places that an instruction has a meaning for: memory for ANI, ORI, ADI and BII, a half or memory for STA, any for an operation on A
 abbrev pub inMemory : Place → Bool
-inMemory (HalfAt h) = false
+inMemory (InHalf h) = false
 inMemory (Pointer page r) = true
 inMemory (Fixed page) = true
 inMemory InCode = false
 
-abbrev pub stores : Place → Bool
-stores (HalfAt h) = true
-stores (Pointer page r) = true
-stores (Fixed page) = true
-stores InCode = false
+abbrev pub canStore : Place → Bool
+canStore (InHalf h) = true
+canStore (Pointer page r) = true
+canStore (Fixed page) = true
+canStore InCode = false
 
 abbrev pub placeFits : Instruction → Bool
 placeFits (Alu o place) = true
-placeFits (Sta place) = stores place
+placeFits (Sta place) = canStore place
 placeFits (Memory o place) = inMemory place
 placeFits (Bii place) = inMemory place
 placeFits (Drr page) = true

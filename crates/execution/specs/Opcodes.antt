@@ -1,7 +1,7 @@
 -- The opcodes of the first page, from the arms of `instruction` in lh5801.rs and document 01, "Opcodes": a row for each high digit, and in it
 -- 16 entries, the column behind each. An entry is the instruction with its operand place and its states: the number that the arm adds,
 -- without what a taken branch, LOP or a vector adds (`addedWhenTaken` in States.antt). —— is an unlisted byte.
--- Places: In (Low X) is XL; Pointer Me0 X is the byte of page 0 that X points to; Fixed Me0 is the byte of page 0 at the word in the code;
+-- Places: InHalf (Low X) is XL; Pointer Me0 X is the byte of page 0 that X points to; Fixed Me0 is the byte of page 0 at the word in the code;
 -- InCode is the byte in the code; Missing is the register that the LH5801 does not have.
 use Prim.Native.Nat.{ℕ, _/_, _%_}
 use mathlib.Core.Bool.{Bool, true, false}
@@ -9,32 +9,32 @@ use mathlib.Core.List.{List, [], _∷_}
 use lib.ListN.{getD}
 use Rattle.execution.specs.declared.places.Register.{Register}
 use Rattle.execution.specs.declared.places.Register.the-variants.{X, Y, U}
-use Rattle.execution.specs.declared.places.Half.the-variants.{High, Low, None as Missing}
+use Rattle.execution.specs.declared.places.Half.the-variants.{High, Low, Missing}
 use Rattle.execution.specs.declared.places.Page.the-variants.{Me0}
-use Rattle.execution.specs.declared.places.Place.the-variants.{Half as In, Pointer, Fixed, InCode}
+use Rattle.execution.specs.declared.places.Place.the-variants.{InHalf, Pointer, Fixed, InCode}
 use Rattle.execution.specs.declared.instructions.Operation.the-variants.{Sbc, Adc, Lda, Cpa, And, Ora, Dcs, Dca, Eor, Bit}
-use Rattle.execution.specs.declared.instructions.Change.the-variants.{And as Ani, Ora as Ori, Add as Adi}
-use Rattle.execution.specs.declared.instructions.Condition.the-variants.{NoCarry, Carry, NoHalf, Half as HalfCarry, NotZero, Zero, NoOverflow, Overflow, Always}
-use Rattle.execution.specs.declared.instructions.Accumulator.the-variants.{Inc as IncA, Dec as DecA, Ror, Shr, Shl, Rol, Aex}
-use Rattle.execution.specs.declared.instructions.Signal.the-variants.{Pu, Pv, Carry as CarryFlag}
-use Rattle.execution.specs.declared.instructions.Instruction.the-variants.{Alu, Sta, Memory, Bii, Drr, Drl, Load, Compare, Inc, Dec, IncWord, DecWord, Sin, Sde, Lin, Lde, Branch, Lop, VectorIf, Vector, Jmp, Sjp, Rtn, Rti, LoadS, Tin, Cin, Accumulator, Signal}
+use Rattle.execution.specs.declared.instructions.Change.the-variants.{Ani, Ori, Adi}
+use Rattle.execution.specs.declared.instructions.Condition.the-variants.{NoCarry, Carry, NoHalfCarry, HalfCarry, NotZero, Zero, NoOverflow, Overflow, Always}
+use Rattle.execution.specs.declared.instructions.Accumulator.the-variants.{IncA, DecA, Ror, Shr, Shl, Rol, Aex}
+use Rattle.execution.specs.declared.instructions.Signal.the-variants.{Pu, Pv, CarryFlag}
+use Rattle.execution.specs.declared.instructions.Instruction.the-variants.{Alu, Sta, Memory, Bii, Drr, Drl, Load, Compare, Inc, Dec, IncWord, DecWord, Sin, Sde, Lin, Lde, Branch, Lop, VectorIf, Vector, Jmp, Sjp, Rtn, Rti, LoadS, Tin, Cin, OnA, Sets}
 use Rattle.execution.specs.declared.instructions.Decoded.{Decoded}
 use Rattle.execution.specs.declared.instructions.Decoded.the-variants.{Listed, Unlisted as ——}
 
 -- Rows 0, 1 and 2, at X, Y and U: A with the low half, and with the byte of page 0 that the register points to.
 abbrev pub row0 : Register → List Decoded
 row0 r =
-    Listed (Alu Sbc (In (Low r))) 6 ∷  -- 0
+    Listed (Alu Sbc (InHalf (Low r))) 6 ∷  -- 0
     Listed (Alu Sbc (Pointer Me0 r)) 7 ∷  -- 1
-    Listed (Alu Adc (In (Low r))) 6 ∷  -- 2
+    Listed (Alu Adc (InHalf (Low r))) 6 ∷  -- 2
     Listed (Alu Adc (Pointer Me0 r)) 7 ∷  -- 3
-    Listed (Alu Lda (In (Low r))) 5 ∷  -- 4
+    Listed (Alu Lda (InHalf (Low r))) 5 ∷  -- 4
     Listed (Alu Lda (Pointer Me0 r)) 6 ∷  -- 5
-    Listed (Alu Cpa (In (Low r))) 6 ∷  -- 6
+    Listed (Alu Cpa (InHalf (Low r))) 6 ∷  -- 6
     Listed (Alu Cpa (Pointer Me0 r)) 7 ∷  -- 7
-    Listed (Sta (In (High r))) 5 ∷  -- 8
+    Listed (Sta (InHalf (High r))) 5 ∷  -- 8
     Listed (Alu And (Pointer Me0 r)) 7 ∷  -- 9
-    Listed (Sta (In (Low r))) 5 ∷  -- A
+    Listed (Sta (InHalf (Low r))) 5 ∷  -- A
     Listed (Alu Ora (Pointer Me0 r)) 7 ∷  -- B
     Listed (Alu Dcs (Pointer Me0 r)) 13 ∷  -- C
     Listed (Alu Eor (Pointer Me0 r)) 7 ∷  -- D
@@ -45,15 +45,15 @@ row0 r =
 -- Row 3: A with the register that the LH5801 does not have.
 abbrev pub row3 : List Decoded
 row3 =
-    Listed (Alu Sbc (In Missing)) 6 ∷  -- 0
+    Listed (Alu Sbc (InHalf Missing)) 6 ∷  -- 0
     —— ∷  -- 1
-    Listed (Alu Adc (In Missing)) 6 ∷  -- 2
+    Listed (Alu Adc (InHalf Missing)) 6 ∷  -- 2
     —— ∷  -- 3
-    Listed (Alu Lda (In Missing)) 5 ∷  -- 4
+    Listed (Alu Lda (InHalf Missing)) 5 ∷  -- 4
     —— ∷  -- 5
-    Listed (Alu Cpa (In Missing)) 6 ∷  -- 6
+    Listed (Alu Cpa (InHalf Missing)) 6 ∷  -- 6
     —— ∷  -- 7
-    Listed (Sta (In Missing)) 5 ∷  -- 8
+    Listed (Sta (InHalf Missing)) 5 ∷  -- 8
     —— ∷ —— ∷ —— ∷ —— ∷ —— ∷ —— ∷ —— ∷  -- 9 to F
     []
 
@@ -89,13 +89,13 @@ row7 =
 -- Rows 8 and 9, the branches forward and backward; at8 and atA stand in columns 8 and A.
 abbrev pub branches : Bool → Register → Decoded → Decoded → List Decoded
 branches forward r at8 atA =
-    Listed (Alu Sbc (In (High r))) 6 ∷  -- 0
+    Listed (Alu Sbc (InHalf (High r))) 6 ∷  -- 0
     Listed (Branch forward NoCarry) 8 ∷  -- 1
-    Listed (Alu Adc (In (High r))) 6 ∷  -- 2
+    Listed (Alu Adc (InHalf (High r))) 6 ∷  -- 2
     Listed (Branch forward Carry) 8 ∷  -- 3
-    Listed (Alu Lda (In (High r))) 5 ∷  -- 4
-    Listed (Branch forward NoHalf) 8 ∷  -- 5
-    Listed (Alu Cpa (In (High r))) 6 ∷  -- 6
+    Listed (Alu Lda (InHalf (High r))) 5 ∷  -- 4
+    Listed (Branch forward NoHalfCarry) 8 ∷  -- 5
+    Listed (Alu Cpa (InHalf (High r))) 6 ∷  -- 6
     Listed (Branch forward HalfCarry) 8 ∷  -- 7
     at8 ∷  -- 8
     Listed (Branch forward NotZero) 8 ∷  -- 9
@@ -116,15 +116,15 @@ row9 = branches false Y —— (Listed Rtn 11)
 -- Row A: A with UH, and with the byte of page 0 at the word in the code.
 abbrev pub rowA : List Decoded
 rowA =
-    Listed (Alu Sbc (In (High U))) 6 ∷  -- 0
+    Listed (Alu Sbc (InHalf (High U))) 6 ∷  -- 0
     Listed (Alu Sbc (Fixed Me0)) 13 ∷  -- 1
-    Listed (Alu Adc (In (High U))) 6 ∷  -- 2
+    Listed (Alu Adc (InHalf (High U))) 6 ∷  -- 2
     Listed (Alu Adc (Fixed Me0)) 13 ∷  -- 3
-    Listed (Alu Lda (In (High U))) 5 ∷  -- 4
+    Listed (Alu Lda (InHalf (High U))) 5 ∷  -- 4
     Listed (Alu Lda (Fixed Me0)) 12 ∷  -- 5
-    Listed (Alu Cpa (In (High U))) 6 ∷  -- 6
+    Listed (Alu Cpa (InHalf (High U))) 6 ∷  -- 6
     Listed (Alu Cpa (Fixed Me0)) 13 ∷  -- 7
-    Listed (Signal Pv true) 4 ∷  -- 8
+    Listed (Sets Pv true) 4 ∷  -- 8
     Listed (Alu And (Fixed Me0)) 13 ∷  -- 9
     Listed LoadS 12 ∷  -- A
     Listed (Alu Ora (Fixed Me0)) 13 ∷  -- B
@@ -145,7 +145,7 @@ rowB =
     Listed (Alu Lda InCode) 6 ∷  -- 5
     —— ∷  -- 6
     Listed (Alu Cpa InCode) 7 ∷  -- 7
-    Listed (Signal Pv false) 4 ∷  -- 8
+    Listed (Sets Pv false) 4 ∷  -- 8
     Listed (Alu And InCode) 7 ∷  -- 9
     Listed Jmp 12 ∷  -- A
     Listed (Alu Ora InCode) 7 ∷  -- B
@@ -163,7 +163,7 @@ rowC =
     Listed (Vector 0xC2) 4 ∷  -- 2
     Listed (VectorIf Carry) 8 ∷  -- 3
     Listed (Vector 0xC4) 4 ∷  -- 4
-    Listed (VectorIf NoHalf) 8 ∷  -- 5
+    Listed (VectorIf NoHalfCarry) 8 ∷  -- 5
     Listed (Vector 0xC6) 4 ∷  -- 6
     Listed (VectorIf HalfCarry) 8 ∷  -- 7
     Listed (Vector 0xC8) 4 ∷  -- 8
@@ -179,29 +179,29 @@ rowC =
 abbrev pub rowD : List Decoded
 rowD =
     Listed (Vector 0xD0) 4 ∷  -- 0
-    Listed (Accumulator Ror) 9 ∷  -- 1
+    Listed (OnA Ror) 9 ∷  -- 1
     Listed (Vector 0xD2) 4 ∷  -- 2
     Listed (Drr Me0) 12 ∷  -- 3
     Listed (Vector 0xD4) 4 ∷  -- 4
-    Listed (Accumulator Shr) 9 ∷  -- 5
+    Listed (OnA Shr) 9 ∷  -- 5
     Listed (Vector 0xD6) 4 ∷  -- 6
     Listed (Drl Me0) 12 ∷  -- 7
     Listed (Vector 0xD8) 4 ∷  -- 8
-    Listed (Accumulator Shl) 6 ∷  -- 9
+    Listed (OnA Shl) 6 ∷  -- 9
     Listed (Vector 0xDA) 4 ∷  -- A
-    Listed (Accumulator Rol) 8 ∷  -- B
+    Listed (OnA Rol) 8 ∷  -- B
     Listed (Vector 0xDC) 4 ∷  -- C
-    Listed (Accumulator IncA) 5 ∷  -- D
+    Listed (OnA IncA) 5 ∷  -- D
     Listed (Vector 0xDE) 4 ∷  -- E
-    Listed (Accumulator DecA) 5 ∷  -- F
+    Listed (OnA DecA) 5 ∷  -- F
     []
 
 abbrev pub rowE : List Decoded
 rowE =
     Listed (Vector 0xE0) 4 ∷  -- 0
-    Listed (Signal Pu true) 4 ∷  -- 1
+    Listed (Sets Pu true) 4 ∷  -- 1
     Listed (Vector 0xE2) 4 ∷  -- 2
-    Listed (Signal Pu false) 4 ∷  -- 3
+    Listed (Sets Pu false) 4 ∷  -- 3
     Listed (Vector 0xE4) 4 ∷  -- 4
     —— ∷  -- 5
     Listed (Vector 0xE6) 4 ∷  -- 6
@@ -216,12 +216,12 @@ rowE =
     Listed (Memory Adi (Fixed Me0)) 19 ∷  -- F
     []
 
--- FD names no instruction: the fetch reads the byte after it, and that byte goes to the second page. So FD's place here is blank, and
+-- FD names no instruction: the fetch reads the byte after it, and that byte is looked up in OpcodesFd.antt. So FD's place here is blank, and
 -- `listedFirst` says that it is listed.
 abbrev pub rowF : List Decoded
 rowF =
     Listed (Vector 0xF0) 4 ∷  -- 0
-    Listed (Accumulator Aex) 6 ∷  -- 1
+    Listed (OnA Aex) 6 ∷  -- 1
     Listed (Vector 0xF2) 4 ∷  -- 2
     —— ∷  -- 3
     Listed (Vector 0xF4) 4 ∷  -- 4
@@ -229,9 +229,9 @@ rowF =
     Listed (Vector 0xF6) 4 ∷  -- 6
     Listed Cin 7 ∷  -- 7
     —— ∷  -- 8
-    Listed (Signal CarryFlag false) 4 ∷  -- 9
+    Listed (Sets CarryFlag false) 4 ∷  -- 9
     —— ∷  -- A
-    Listed (Signal CarryFlag true) 4 ∷  -- B
+    Listed (Sets CarryFlag true) 4 ∷  -- B
     —— ∷ —— ∷ —— ∷ —— ∷  -- C to F
     []
 

@@ -10,11 +10,11 @@ use Rattle.execution.specs.declared.places.Half.the-variants.{High}
 use Rattle.execution.specs.declared.places.Page.the-variants.{Me1}
 use Rattle.execution.specs.declared.places.Place.the-variants.{Pointer, Fixed}
 use Rattle.execution.specs.declared.instructions.Operation.the-variants.{Sbc, Adc, Lda, Cpa, And, Ora, Dcs, Dca, Eor, Bit}
-use Rattle.execution.specs.declared.instructions.Change.the-variants.{And as Ani, Ora as Ori, Add as Adi}
+use Rattle.execution.specs.declared.instructions.Change.the-variants.{Ani, Ori, Adi}
 use Rattle.execution.specs.declared.instructions.Word.the-variants.{Of, S, P}
 use Rattle.execution.specs.declared.instructions.Accumulator.the-variants.{Tta, Att, Ita, Am0, Am1}
 use Rattle.execution.specs.declared.instructions.Signal.the-variants.{Disp, InterruptEnable}
-use Rattle.execution.specs.declared.instructions.Instruction.the-variants.{Alu, Sta, Memory, Bii, Drr, Drl, Inc, Dec, Accumulator, Signal, PopWord, PushWord, PopA, PushA, ToX, FromX, DropWord, Adr, Off, Hlt, Cdv, Nop}
+use Rattle.execution.specs.declared.instructions.Instruction.the-variants.{Alu, Sta, Memory, Bii, Drr, Drl, Inc, Dec, OnA, Sets, PopWord, PushWord, PopA, PushA, ToX, FromX, DropWord, Adr, Off, Hlt, Cdv, Nop}
 use Rattle.execution.specs.declared.instructions.Decoded.{Decoded}
 use Rattle.execution.specs.declared.instructions.Decoded.the-variants.{Listed, Unlisted as ——}
 
@@ -75,8 +75,8 @@ abbrev pub row4U : List Decoded
 row4U = row4 U —— —— ——
 
 -- Rows 7 and F list nothing.
-abbrev pub none : List Decoded
-none =
+abbrev pub emptyRow : List Decoded
+emptyRow =
     —— ∷ —— ∷ —— ∷ —— ∷ —— ∷ —— ∷ —— ∷ —— ∷ —— ∷ —— ∷ —— ∷ —— ∷ —— ∷ —— ∷ —— ∷ —— ∷  -- 0 to F
     []
 
@@ -97,7 +97,7 @@ row8 r at1 atA atE =
     []
 
 abbrev pub row8X : List Decoded
-row8X = row8 X (Listed (Signal InterruptEnable true) 8) (Listed PopA 12) (Listed Cdv 8)
+row8X = row8 X (Listed (Sets InterruptEnable true) 8) (Listed PopA 12) (Listed Cdv 8)
 
 abbrev pub row8Y : List Decoded
 row8Y = row8 Y —— —— ——
@@ -115,7 +115,7 @@ rowA =
     Listed (Alu Cpa (Fixed Me1)) 17 ∷  -- 7
     Listed (PushWord U) 14 ∷  -- 8
     Listed (Alu And (Fixed Me1)) 17 ∷  -- 9
-    Listed (Accumulator Tta) 9 ∷  -- A
+    Listed (OnA Tta) 9 ∷  -- A
     Listed (Alu Ora (Fixed Me1)) 17 ∷  -- B
     Listed (Alu Dca (Pointer Me1 U)) 19 ∷  -- C
     Listed (Alu Eor (Fixed Me1)) 17 ∷  -- D
@@ -128,16 +128,16 @@ rowB =
     —— ∷  -- 0
     Listed Hlt 9 ∷  -- 1
     —— ∷ —— ∷ —— ∷ —— ∷ —— ∷ —— ∷ —— ∷ —— ∷  -- 2 to 9
-    Listed (Accumulator Ita) 9 ∷  -- A
+    Listed (OnA Ita) 9 ∷  -- A
     —— ∷ —— ∷ —— ∷  -- B to D
-    Listed (Signal InterruptEnable false) 8 ∷  -- E
+    Listed (Sets InterruptEnable false) 8 ∷  -- E
     —— ∷  -- F
     []
 
 abbrev pub rowC : List Decoded
 rowC =
-    Listed (Signal Disp false) 8 ∷  -- 0
-    Listed (Signal Disp true) 8 ∷  -- 1
+    Listed (Sets Disp false) 8 ∷  -- 0
+    Listed (Sets Disp true) 8 ∷  -- 1
     —— ∷ —— ∷ —— ∷ —— ∷ —— ∷ —— ∷  -- 2 to 7
     Listed PushA 11 ∷  -- 8
     —— ∷  -- 9
@@ -145,7 +145,7 @@ rowC =
     —— ∷  -- B
     Listed Nop 9 ∷  -- C
     —— ∷  -- D
-    Listed (Accumulator Am0) 9 ∷  -- E
+    Listed (OnA Am0) 9 ∷  -- E
     —— ∷  -- F
     []
 
@@ -158,7 +158,7 @@ rowD =
     —— ∷ —— ∷  -- 8 9
     Listed (Adr Y) 11 ∷  -- A
     —— ∷ —— ∷ —— ∷  -- B to D
-    Listed (Accumulator Am1) 9 ∷  -- E
+    Listed (OnA Am1) 9 ∷  -- E
     —— ∷  -- F
     []
 
@@ -168,7 +168,7 @@ rowE =
     Listed (Memory Ani (Fixed Me1)) 23 ∷  -- 9
     Listed (Adr U) 11 ∷  -- A
     Listed (Memory Ori (Fixed Me1)) 23 ∷  -- B
-    Listed (Accumulator Att) 9 ∷  -- C
+    Listed (OnA Att) 9 ∷  -- C
     Listed (Bii (Fixed Me1)) 20 ∷  -- D
     —— ∷  -- E
     Listed (Memory Adi (Fixed Me1)) 23 ∷  -- F
@@ -177,9 +177,9 @@ rowE =
 abbrev pub rowsFd : List (List Decoded)
 rowsFd =
     row0 X ∷ row0 Y ∷ row0 U ∷ row3
-    ∷ row4X ∷ row4Y ∷ row4U ∷ none
+    ∷ row4X ∷ row4Y ∷ row4U ∷ emptyRow
     ∷ row8X ∷ row8Y ∷ rowA ∷ rowB
-    ∷ rowC ∷ rowD ∷ rowE ∷ none
+    ∷ rowC ∷ rowD ∷ rowE ∷ emptyRow
     ∷ []
 
 -- what a byte after FD stands for

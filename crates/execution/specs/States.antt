@@ -6,7 +6,7 @@ use lib.Dec.{eqb}
 use Rattle.arithmetic.specs.declared.record.Lh5801.{Lh5801}
 use Rattle.execution.specs.declared.instructions.Condition.{Condition}
 use Rattle.execution.specs.declared.instructions.Instruction.{Instruction}
-use Rattle.execution.specs.declared.instructions.Instruction.the-variants.{Alu, Sta, Memory, Bii, Drr, Drl, Load, Compare, Inc, Dec, IncWord, DecWord, Sin, Sde, Lin, Lde, Branch, Lop, VectorIf, Vector, Jmp, Sjp, Rtn, Rti, LoadS, Tin, Cin, Accumulator as OnA, Signal as Sets, PopWord, PushWord, PopA, PushA, ToX, FromX, DropWord, Adr, Off, Hlt, Cdv, Nop}
+use Rattle.execution.specs.declared.instructions.Instruction.the-variants.{Alu, Sta, Memory, Bii, Drr, Drl, Load, Compare, Inc, Dec, IncWord, DecWord, Sin, Sde, Lin, Lde, Branch, Lop, VectorIf, Vector, Jmp, Sjp, Rtn, Rti, LoadS, Tin, Cin, OnA, Sets, PopWord, PushWord, PopA, PushA, ToX, FromX, DropWord, Adr, Off, Hlt, Cdv, Nop}
 use Rattle.execution.specs.Instructions.{holdsOf}
 
 -- what an instruction may add: only these four kinds do

@@ -13,9 +13,7 @@ use Rattle.execution.specs.declared.instructions.Decoded.{Decoded}
 use Rattle.execution.specs.declared.instructions.Decoded.the-variants.{Listed, Unlisted}
 use Rattle.execution.specs.declared.Fetched.{Fetched}
 use Rattle.execution.specs.declared.Stop.{Stop}
-use Rattle.execution.specs.declared.Stop.the-variants.{Unlisted as UnlistedByte, UnlistedFd, Halted}
-use Rattle.execution.specs.declared.Outcome.{Outcome}
-use Rattle.execution.specs.declared.Outcome.the-variants.{Completed, Stopped}
+use Rattle.execution.specs.declared.Stop.the-variants.{UnlistedFirst, UnlistedFd, Halted}
 use Rattle.execution.specs.Instructions.{executeOf}
 use Rattle.execution.specs.Opcodes.{decoded}
 use Rattle.execution.specs.OpcodesFd.{decodedFd}
@@ -47,11 +45,6 @@ pub data StepEnd : Type 0 where
   did : Lh5801 → ℕ → Kind → StepEnd
   stopped : Stop → StepEnd
 
--- what `step_cpu` answers of it
-abbrev pub outcomeOf : StepEnd → Outcome
-outcomeOf (did m states kind) = Completed m
-outcomeOf (stopped s) = Stopped s
-
 -- the opcode: the first byte, or the byte after FD, and P after it
 abbrev pub fetched : Bool → ℕ → ℕ → Fetched
 fetched fd byte p = record { fd = fd; byte = byte; p = p }
@@ -71,7 +64,7 @@ decodedBy false byte = decoded byte
 
 abbrev pub unlistedBy : Bool → ℕ → Stop
 unlistedBy true byte = UnlistedFd byte
-unlistedBy false byte = UnlistedByte byte
+unlistedBy false byte = UnlistedFirst byte
 
 -- what a decoded byte does: its states are those that the table prints and those that it adds where it is taken
 unfoldable pub decodedStepOf : Lh5801 → Inputs → Fetched → Decoded → Prog StepEnd

@@ -2,7 +2,7 @@
 // with what it holds, and its states.
 ghost use mathlib.Core.Path.{_≡_};
 ghost use Rattle.execution.specs.declared.instructions.Decoded.the-variants.{Listed};
-ghost use Rattle.execution.specs.declared.instructions.Instruction.the-variants.{Alu, Sta, Memory, Bii, Load, Compare, Inc, Dec, IncWord, DecWord, Sin, Sde, Lin, Lde, Branch, VectorIf, Vector, Accumulator as OnA, Signal as Line, PopWord, PushWord, ToX, FromX, Adr};
+ghost use Rattle.execution.specs.declared.instructions.Instruction.the-variants.{Alu, Sta, Memory, Bii, Load, Compare, Inc, Dec, IncWord, DecWord, Sin, Sde, Lin, Lde, Branch, VectorIf, Vector, OnA, Sets, PopWord, PushWord, ToX, FromX, Adr};
 use crate::instructions::Accumulator;
 use crate::instructions::Change;
 use crate::instructions::Condition;
@@ -120,13 +120,13 @@ pub fn vector(nr: u8, states: u8) -> Decoded
 pub fn accumulator(o: Accumulator, states: u8) -> Decoded
     ensures { λ d. ⌜ d ≡ Listed (OnA o) states ⌝ }
 {
-    Decoded::Listed(Instruction::Accumulator(o), states)
+    Decoded::Listed(Instruction::OnA(o), states)
 }
 
 pub fn signal(s: Signal, value: bool, states: u8) -> Decoded
-    ensures { λ d. ⌜ d ≡ Listed (Line s value) states ⌝ }
+    ensures { λ d. ⌜ d ≡ Listed (Sets s value) states ⌝ }
 {
-    Decoded::Listed(Instruction::Signal(s, value), states)
+    Decoded::Listed(Instruction::Sets(s, value), states)
 }
 
 pub fn pop_word(r: Register, states: u8) -> Decoded

@@ -12,8 +12,8 @@ fn holds(t: u8, c: Condition) -> bool
     match c {
         Condition::NoCarry => !arithmetic::get_flag(t, arithmetic::CF),
         Condition::Carry => arithmetic::get_flag(t, arithmetic::CF),
-        Condition::NoHalf => !arithmetic::get_flag(t, arithmetic::HF),
-        Condition::Half => arithmetic::get_flag(t, arithmetic::HF),
+        Condition::NoHalfCarry => !arithmetic::get_flag(t, arithmetic::HF),
+        Condition::HalfCarry => arithmetic::get_flag(t, arithmetic::HF),
         Condition::NotZero => !arithmetic::get_flag(t, arithmetic::ZF),
         Condition::Zero => arithmetic::get_flag(t, arithmetic::ZF),
         Condition::NoOverflow => !arithmetic::get_flag(t, arithmetic::VF),
@@ -72,7 +72,7 @@ pub fn vector(cpu: Lh5801, page0: &mut [u8], page1: &mut [u8], nr: u8) -> Lh5801
     ensures { λ m. ⌜ Changes (vectorOf cpu nr) page0 page1 m ⌝ }
 {
     let pushed = pages::push_word(cpu, page0, page1, cpu.p);
-    let at = pages::get_mem16(page0, page1, 65280 + nr as u16);
+    let at = pages::get_mem16(page0, page1, 0xff00 + nr as u16);
     let t = arithmetic::set_flag(cpu.t, arithmetic::ZF, false);
     pages::add_state(pushed.with_p(at).with_t(t), 13)
 }

@@ -20,17 +20,17 @@ pub enum Operation {
 
 // What is done to a byte in memory with a byte in the code.
 pub enum Change {
-    And,
-    Ora,
-    Add,
+    Ani,
+    Ori,
+    Adi,
 }
 
 // What a branch or a vector asks of the flags.
 pub enum Condition {
     NoCarry,
     Carry,
-    NoHalf,
-    Half,
+    NoHalfCarry,
+    HalfCarry,
     NotZero,
     Zero,
     NoOverflow,
@@ -48,8 +48,8 @@ pub enum Word {
 // What has no operand but A. Tta and Att are T to A and A to T, Ita is the input port to A, and Am0 and
 // Am1 are A to the timer, with its bit 8 clear and set.
 pub enum Accumulator {
-    Inc,
-    Dec,
+    IncA,
+    DecA,
     Ror,
     Shr,
     Shl,
@@ -67,7 +67,7 @@ pub enum Signal {
     Pu,
     Pv,
     Disp,
-    Carry,
+    CarryFlag,
     InterruptEnable,
 }
 
@@ -102,8 +102,8 @@ pub enum Instruction {
     LoadS,
     Tin,
     Cin,
-    Accumulator(Accumulator),
-    Signal(Signal, bool),
+    OnA(Accumulator),
+    Sets(Signal, bool),
     PopWord(Register),
     PushWord(Register),
     PopA,

@@ -6,7 +6,8 @@ ghost use Rattle.arithmetic.specs.Record.{with-ir1, with-ir2};
 ghost use Rattle.pages.specs.Prog.{mapped};
 ghost use Rattle.pages.specs.Contract.{Changes, Reads};
 ghost use Rattle.execution.specs.Instructions.{executeOf};
-ghost use Rattle.execution.specs.Step.{outcomeOf, fetchOf, decodedBy, unlistedBy, reachedOf, stepOf};
+ghost use Rattle.execution.specs.Step.{fetchOf, decodedBy, unlistedBy, reachedOf, stepOf};
+ghost use Rattle.execution.specs.Code.Outcomes.{outcomeOf};
 ghost use Rattle.execution.specs.Code.Due.{dueOf, Ready, settledOnA, settledSignal, settledOf, executedOf, DueAgain};
 ghost use Rattle.execution.specs.Inputs.{ofKeyboard};
 use crate::instructions::Accumulator;
@@ -40,7 +41,7 @@ impl Inputs {
 
 // Why a step stops: document 01's 5 and 6 with the byte, and 7.
 pub enum Stop {
-    Unlisted(u8),
+    UnlistedFirst(u8),
     UnlistedFd(u8),
     Halted,
 }
@@ -102,8 +103,8 @@ pub fn execute(
         Instruction::LoadS => transfers::load_s(cpu, page0, page1),
         Instruction::Tin => transfers::tin(cpu, page0, page1),
         Instruction::Cin => transfers::cin(cpu, page0, page1),
-        Instruction::Accumulator(o) => transfers::accumulator(cpu, o, inputs.keyboard),
-        Instruction::Signal(s, value) => transfers::signal(cpu, s, value),
+        Instruction::OnA(o) => transfers::accumulator(cpu, o, inputs.keyboard),
+        Instruction::Sets(s, value) => transfers::signal(cpu, s, value),
         Instruction::PopWord(r) => transfers::pop_to(cpu, page0, page1, r),
         Instruction::PushWord(r) => transfers::push_from(cpu, page0, page1, r),
         Instruction::PopA => pages::pop(cpu, page0, page1),
@@ -143,7 +144,7 @@ fn decode(fd: bool, byte: u8) -> Decoded
     ensures { λ r. ⌜ r ≡ decodedBy fd byte ⌝ }
 {
     if !fd {
-        opcodes::decode(byte)
+        opcodes::decode_first(byte)
     } else {
         opcodes_fd::decode_fd(byte)
     }
@@ -155,7 +156,7 @@ fn unlisted(fd: bool, byte: u8) -> Stop
     if fd {
         Stop::UnlistedFd(byte)
     } else {
-        Stop::Unlisted(byte)
+        Stop::UnlistedFirst(byte)
     }
 }
 
@@ -185,8 +186,8 @@ fn settled(i: Instruction) -> bool
 {
     match i {
         Instruction::Rti => false,
-        Instruction::Accumulator(o) => settled_on_a(o),
-        Instruction::Signal(s, value) => settled_signal(s),
+        Instruction::OnA(o) => settled_on_a(o),
+        Instruction::Sets(s, value) => settled_signal(s),
         Instruction::Off => false,
         Instruction::Hlt => false,
         _ => true,
@@ -230,7 +231,7 @@ pub fn reached(cpu: Lh5801) -> Lh5801
 }
 
 // Where an enabled request leads: IR1 goes before IR2.
-fn vector_of(cpu: Lh5801) -> u16
+fn interrupt_vector(cpu: Lh5801) -> u16
     ensures { λ r. ⌜ r ≡ cond (cpu .ir1) 0xFFFA 0xFFF8 ⌝ }
 {
     if cpu.ir1 { 0xfffa } else { 0xfff8 }
@@ -256,7 +257,7 @@ fn powered_step(cpu: Lh5801, page0: &mut [u8], page1: &mut [u8], inputs: Inputs)
         return Outcome::Completed(pages::timer_part(cpu));
     }
     if (cpu.ir1 | cpu.ir2) & arithmetic::get_flag(cpu.t, arithmetic::IE) {
-        let at = vector_of(cpu);
+        let at = interrupt_vector(cpu);
         let next = pages::accept(acknowledged(cpu), page0, page1, at);
         return Outcome::Completed(pages::timer_part(next));
     }

@@ -1,6 +1,6 @@
 // The opcodes of the first page: the high digit of a byte is its row, the low digit its column.
 // A row matches on the whole byte and leaves to the next row of its half what it does not list; the rows
-// of X, Y and U are written out. So one jump leads from a byte to its instruction (docs/MEASUREMENTS.md).
+// of X, Y and U are written out. So one jump leads from a byte to its instruction (docs/TRIED.md).
 ghost use mathlib.Core.Path.{_≡_};
 ghost use lib.ListN.{take, drop};
 ghost use Rattle.execution.specs.Opcodes.{rows, decoded};
@@ -25,7 +25,7 @@ use crate::places::Register::Y;
 fn row_0(byte: u8) -> Decoded
     ensures { λ d. ⌜ d ≡ chained (drop 0 (take 8 rows)) 0 byte ⌝ }
 {
-    let low = Place::Half(Half::Low(X));
+    let low = Place::InHalf(Half::Low(X));
     let at = Place::Pointer(Page::Me0, X);
     match byte {
         0x00 => entries::alu(Operation::Sbc, low, 6),
@@ -36,7 +36,7 @@ fn row_0(byte: u8) -> Decoded
         0x05 => entries::alu(Operation::Lda, at, 6),
         0x06 => entries::alu(Operation::Cpa, low, 6),
         0x07 => entries::alu(Operation::Cpa, at, 7),
-        0x08 => entries::sta(Place::Half(Half::High(X)), 5),
+        0x08 => entries::sta(Place::InHalf(Half::High(X)), 5),
         0x09 => entries::alu(Operation::And, at, 7),
         0x0a => entries::sta(low, 5),
         0x0b => entries::alu(Operation::Ora, at, 7),
@@ -51,7 +51,7 @@ fn row_0(byte: u8) -> Decoded
 fn row_1(byte: u8) -> Decoded
     ensures { λ d. ⌜ d ≡ chained (drop 1 (take 8 rows)) 1 byte ⌝ }
 {
-    let low = Place::Half(Half::Low(Y));
+    let low = Place::InHalf(Half::Low(Y));
     let at = Place::Pointer(Page::Me0, Y);
     match byte {
         0x10 => entries::alu(Operation::Sbc, low, 6),
@@ -62,7 +62,7 @@ fn row_1(byte: u8) -> Decoded
         0x15 => entries::alu(Operation::Lda, at, 6),
         0x16 => entries::alu(Operation::Cpa, low, 6),
         0x17 => entries::alu(Operation::Cpa, at, 7),
-        0x18 => entries::sta(Place::Half(Half::High(Y)), 5),
+        0x18 => entries::sta(Place::InHalf(Half::High(Y)), 5),
         0x19 => entries::alu(Operation::And, at, 7),
         0x1a => entries::sta(low, 5),
         0x1b => entries::alu(Operation::Ora, at, 7),
@@ -77,7 +77,7 @@ fn row_1(byte: u8) -> Decoded
 fn row_2(byte: u8) -> Decoded
     ensures { λ d. ⌜ d ≡ chained (drop 2 (take 8 rows)) 2 byte ⌝ }
 {
-    let low = Place::Half(Half::Low(U));
+    let low = Place::InHalf(Half::Low(U));
     let at = Place::Pointer(Page::Me0, U);
     match byte {
         0x20 => entries::alu(Operation::Sbc, low, 6),
@@ -88,7 +88,7 @@ fn row_2(byte: u8) -> Decoded
         0x25 => entries::alu(Operation::Lda, at, 6),
         0x26 => entries::alu(Operation::Cpa, low, 6),
         0x27 => entries::alu(Operation::Cpa, at, 7),
-        0x28 => entries::sta(Place::Half(Half::High(U)), 5),
+        0x28 => entries::sta(Place::InHalf(Half::High(U)), 5),
         0x29 => entries::alu(Operation::And, at, 7),
         0x2a => entries::sta(low, 5),
         0x2b => entries::alu(Operation::Ora, at, 7),
@@ -104,7 +104,7 @@ fn row_2(byte: u8) -> Decoded
 fn row_3(byte: u8) -> Decoded
     ensures { λ d. ⌜ d ≡ chained (drop 3 (take 8 rows)) 3 byte ⌝ }
 {
-    let missing = Place::Half(Half::None);
+    let missing = Place::InHalf(Half::Missing);
     match byte {
         0x30 => entries::alu(Operation::Sbc, missing, 6),
         0x32 => entries::alu(Operation::Adc, missing, 6),
@@ -130,13 +130,13 @@ fn row_4(byte: u8) -> Decoded
         0x46 => entries::dec_word(X, 5),
         0x47 => entries::lde(X, 6),
         0x48 => entries::load(Half::High(X), 6),
-        0x49 => entries::memory(Change::And, at, 13),
+        0x49 => entries::memory(Change::Ani, at, 13),
         0x4a => entries::load(Half::Low(X), 6),
-        0x4b => entries::memory(Change::Ora, at, 13),
+        0x4b => entries::memory(Change::Ori, at, 13),
         0x4c => entries::compare(Half::High(X), 7),
         0x4d => entries::bii(at, 10),
         0x4e => entries::compare(Half::Low(X), 7),
-        0x4f => entries::memory(Change::Add, at, 13),
+        0x4f => entries::memory(Change::Adi, at, 13),
         _ => row_5(byte),
     }
 }
@@ -155,13 +155,13 @@ fn row_5(byte: u8) -> Decoded
         0x56 => entries::dec_word(Y, 5),
         0x57 => entries::lde(Y, 6),
         0x58 => entries::load(Half::High(Y), 6),
-        0x59 => entries::memory(Change::And, at, 13),
+        0x59 => entries::memory(Change::Ani, at, 13),
         0x5a => entries::load(Half::Low(Y), 6),
-        0x5b => entries::memory(Change::Ora, at, 13),
+        0x5b => entries::memory(Change::Ori, at, 13),
         0x5c => entries::compare(Half::High(Y), 7),
         0x5d => entries::bii(at, 10),
         0x5e => entries::compare(Half::Low(Y), 7),
-        0x5f => entries::memory(Change::Add, at, 13),
+        0x5f => entries::memory(Change::Adi, at, 13),
         _ => row_6(byte),
     }
 }
@@ -180,13 +180,13 @@ fn row_6(byte: u8) -> Decoded
         0x66 => entries::dec_word(U, 5),
         0x67 => entries::lde(U, 6),
         0x68 => entries::load(Half::High(U), 6),
-        0x69 => entries::memory(Change::And, at, 13),
+        0x69 => entries::memory(Change::Ani, at, 13),
         0x6a => entries::load(Half::Low(U), 6),
-        0x6b => entries::memory(Change::Ora, at, 13),
+        0x6b => entries::memory(Change::Ori, at, 13),
         0x6c => entries::compare(Half::High(U), 7),
         0x6d => entries::bii(at, 10),
         0x6e => entries::compare(Half::Low(U), 7),
-        0x6f => entries::memory(Change::Add, at, 13),
+        0x6f => entries::memory(Change::Adi, at, 13),
         _ => row_7(byte),
     }
 }
@@ -196,7 +196,7 @@ fn row_7(byte: u8) -> Decoded
     ensures { λ d. ⌜ d ≡ chained (drop 7 (take 8 rows)) 7 byte ⌝ }
 {
     match byte {
-        0x72 => entries::dec(Half::None, 5),
+        0x72 => entries::dec(Half::Missing, 5),
         _ => Decoded::Unlisted,
     }
 }
@@ -205,16 +205,16 @@ fn row_7(byte: u8) -> Decoded
 fn row_8(byte: u8) -> Decoded
     ensures { λ d. ⌜ d ≡ chained (drop 8 rows) 8 byte ⌝ }
 {
-    let high = Place::Half(Half::High(X));
+    let high = Place::InHalf(Half::High(X));
     match byte {
         0x80 => entries::alu(Operation::Sbc, high, 6),
         0x81 => entries::branch(Condition::NoCarry, true, 8),
         0x82 => entries::alu(Operation::Adc, high, 6),
         0x83 => entries::branch(Condition::Carry, true, 8),
         0x84 => entries::alu(Operation::Lda, high, 5),
-        0x85 => entries::branch(Condition::NoHalf, true, 8),
+        0x85 => entries::branch(Condition::NoHalfCarry, true, 8),
         0x86 => entries::alu(Operation::Cpa, high, 6),
-        0x87 => entries::branch(Condition::Half, true, 8),
+        0x87 => entries::branch(Condition::HalfCarry, true, 8),
         0x88 => Decoded::Listed(Instruction::Lop, 8),
         0x89 => entries::branch(Condition::NotZero, true, 8),
         0x8a => Decoded::Listed(Instruction::Rti, 14),
@@ -231,16 +231,16 @@ fn row_8(byte: u8) -> Decoded
 fn row_9(byte: u8) -> Decoded
     ensures { λ d. ⌜ d ≡ chained (drop 9 rows) 9 byte ⌝ }
 {
-    let high = Place::Half(Half::High(Y));
+    let high = Place::InHalf(Half::High(Y));
     match byte {
         0x90 => entries::alu(Operation::Sbc, high, 6),
         0x91 => entries::branch(Condition::NoCarry, false, 8),
         0x92 => entries::alu(Operation::Adc, high, 6),
         0x93 => entries::branch(Condition::Carry, false, 8),
         0x94 => entries::alu(Operation::Lda, high, 5),
-        0x95 => entries::branch(Condition::NoHalf, false, 8),
+        0x95 => entries::branch(Condition::NoHalfCarry, false, 8),
         0x96 => entries::alu(Operation::Cpa, high, 6),
-        0x97 => entries::branch(Condition::Half, false, 8),
+        0x97 => entries::branch(Condition::HalfCarry, false, 8),
         0x99 => entries::branch(Condition::NotZero, false, 8),
         0x9a => Decoded::Listed(Instruction::Rtn, 11),
         0x9b => entries::branch(Condition::Zero, false, 8),
@@ -256,7 +256,7 @@ fn row_9(byte: u8) -> Decoded
 fn row_a(byte: u8) -> Decoded
     ensures { λ d. ⌜ d ≡ chained (drop 10 rows) 10 byte ⌝ }
 {
-    let high = Place::Half(Half::High(U));
+    let high = Place::InHalf(Half::High(U));
     let fixed = Place::Fixed(Page::Me0);
     match byte {
         0xa0 => entries::alu(Operation::Sbc, high, 6),
@@ -306,21 +306,21 @@ fn row_c(byte: u8) -> Decoded
     ensures { λ d. ⌜ d ≡ chained (drop 12 rows) 12 byte ⌝ }
 {
     match byte {
-        0xc0 => entries::vector(192, 4),
+        0xc0 => entries::vector(0xc0, 4),
         0xc1 => entries::vector_if(Condition::NoCarry, 8),
-        0xc2 => entries::vector(194, 4),
+        0xc2 => entries::vector(0xc2, 4),
         0xc3 => entries::vector_if(Condition::Carry, 8),
-        0xc4 => entries::vector(196, 4),
-        0xc5 => entries::vector_if(Condition::NoHalf, 8),
-        0xc6 => entries::vector(198, 4),
-        0xc7 => entries::vector_if(Condition::Half, 8),
-        0xc8 => entries::vector(200, 4),
+        0xc4 => entries::vector(0xc4, 4),
+        0xc5 => entries::vector_if(Condition::NoHalfCarry, 8),
+        0xc6 => entries::vector(0xc6, 4),
+        0xc7 => entries::vector_if(Condition::HalfCarry, 8),
+        0xc8 => entries::vector(0xc8, 4),
         0xc9 => entries::vector_if(Condition::NotZero, 8),
-        0xca => entries::vector(202, 4),
+        0xca => entries::vector(0xca, 4),
         0xcb => entries::vector_if(Condition::Zero, 8),
-        0xcc => entries::vector(204, 4),
+        0xcc => entries::vector(0xcc, 4),
         0xcd => entries::vector_if(Condition::Always, 7),
-        0xce => entries::vector(206, 4),
+        0xce => entries::vector(0xce, 4),
         0xcf => entries::vector_if(Condition::Overflow, 8),
         _ => row_d(byte),
     }
@@ -330,24 +330,23 @@ fn row_c(byte: u8) -> Decoded
 fn row_d(byte: u8) -> Decoded
     ensures { λ d. ⌜ d ≡ chained (drop 13 rows) 13 byte ⌝ }
 {
-    let at = Place::Pointer(Page::Me0, X);
     match byte {
-        0xd0 => entries::vector(208, 4),
+        0xd0 => entries::vector(0xd0, 4),
         0xd1 => entries::accumulator(Accumulator::Ror, 9),
-        0xd2 => entries::vector(210, 4),
+        0xd2 => entries::vector(0xd2, 4),
         0xd3 => Decoded::Listed(Instruction::Drr(Page::Me0), 12),
-        0xd4 => entries::vector(212, 4),
+        0xd4 => entries::vector(0xd4, 4),
         0xd5 => entries::accumulator(Accumulator::Shr, 9),
-        0xd6 => entries::vector(214, 4),
+        0xd6 => entries::vector(0xd6, 4),
         0xd7 => Decoded::Listed(Instruction::Drl(Page::Me0), 12),
-        0xd8 => entries::vector(216, 4),
+        0xd8 => entries::vector(0xd8, 4),
         0xd9 => entries::accumulator(Accumulator::Shl, 6),
-        0xda => entries::vector(218, 4),
+        0xda => entries::vector(0xda, 4),
         0xdb => entries::accumulator(Accumulator::Rol, 8),
-        0xdc => entries::vector(220, 4),
-        0xdd => entries::accumulator(Accumulator::Inc, 5),
-        0xde => entries::vector(222, 4),
-        0xdf => entries::accumulator(Accumulator::Dec, 5),
+        0xdc => entries::vector(0xdc, 4),
+        0xdd => entries::accumulator(Accumulator::IncA, 5),
+        0xde => entries::vector(0xde, 4),
+        0xdf => entries::accumulator(Accumulator::DecA, 5),
         _ => row_e(byte),
     }
 }
@@ -358,20 +357,20 @@ fn row_e(byte: u8) -> Decoded
 {
     let fixed = Place::Fixed(Page::Me0);
     match byte {
-        0xe0 => entries::vector(224, 4),
+        0xe0 => entries::vector(0xe0, 4),
         0xe1 => entries::signal(Signal::Pu, true, 4),
-        0xe2 => entries::vector(226, 4),
+        0xe2 => entries::vector(0xe2, 4),
         0xe3 => entries::signal(Signal::Pu, false, 4),
-        0xe4 => entries::vector(228, 4),
-        0xe6 => entries::vector(230, 4),
-        0xe8 => entries::vector(232, 4),
-        0xe9 => entries::memory(Change::And, fixed, 19),
-        0xea => entries::vector(234, 4),
-        0xeb => entries::memory(Change::Ora, fixed, 19),
-        0xec => entries::vector(236, 4),
+        0xe4 => entries::vector(0xe4, 4),
+        0xe6 => entries::vector(0xe6, 4),
+        0xe8 => entries::vector(0xe8, 4),
+        0xe9 => entries::memory(Change::Ani, fixed, 19),
+        0xea => entries::vector(0xea, 4),
+        0xeb => entries::memory(Change::Ori, fixed, 19),
+        0xec => entries::vector(0xec, 4),
         0xed => entries::bii(fixed, 16),
-        0xee => entries::vector(238, 4),
-        0xef => entries::memory(Change::Add, fixed, 19),
+        0xee => entries::vector(0xee, 4),
+        0xef => entries::memory(Change::Adi, fixed, 19),
         _ => row_f(byte),
     }
 }
@@ -382,21 +381,21 @@ fn row_f(byte: u8) -> Decoded
     ensures { λ d. ⌜ d ≡ chained (drop 15 rows) 15 byte ⌝ }
 {
     match byte {
-        0xf0 => entries::vector(240, 4),
+        0xf0 => entries::vector(0xf0, 4),
         0xf1 => entries::accumulator(Accumulator::Aex, 6),
-        0xf2 => entries::vector(242, 4),
-        0xf4 => entries::vector(244, 4),
+        0xf2 => entries::vector(0xf2, 4),
+        0xf4 => entries::vector(0xf4, 4),
         0xf5 => Decoded::Listed(Instruction::Tin, 7),
-        0xf6 => entries::vector(246, 4),
+        0xf6 => entries::vector(0xf6, 4),
         0xf7 => Decoded::Listed(Instruction::Cin, 7),
-        0xf9 => entries::signal(Signal::Carry, false, 4),
-        0xfb => entries::signal(Signal::Carry, true, 4),
+        0xf9 => entries::signal(Signal::CarryFlag, false, 4),
+        0xfb => entries::signal(Signal::CarryFlag, true, 4),
         _ => Decoded::Unlisted,
     }
 }
 
-// The instruction of a first byte other than FD, for which it is unlisted.
-pub fn decode(byte: u8) -> Decoded
+// The instruction of a first byte. FD names none, so it answers Unlisted.
+pub fn decode_first(byte: u8) -> Decoded
     ensures { λ d. ⌜ d ≡ decoded byte ⌝ }
 {
     if byte < 128 { row_0(byte) } else { row_8(byte) }

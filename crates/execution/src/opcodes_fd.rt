@@ -103,13 +103,13 @@ fn row_4(byte: u8) -> Decoded
         0x40 => entries::inc(Half::High(X), 9),
         0x42 => entries::dec(Half::High(X), 9),
         0x48 => entries::to_x(Word::S, 11),
-        0x49 => entries::memory(Change::And, at, 17),
+        0x49 => entries::memory(Change::Ani, at, 17),
         0x4a => entries::from_x(Word::Of(X), 11),
-        0x4b => entries::memory(Change::Ora, at, 17),
+        0x4b => entries::memory(Change::Ori, at, 17),
         0x4c => Decoded::Listed(Instruction::Off, 8),
         0x4d => entries::bii(at, 14),
         0x4e => entries::from_x(Word::S, 11),
-        0x4f => entries::memory(Change::Add, at, 17),
+        0x4f => entries::memory(Change::Adi, at, 17),
         _ => row_5(byte),
     }
 }
@@ -122,12 +122,12 @@ fn row_5(byte: u8) -> Decoded
         0x50 => entries::inc(Half::High(Y), 9),
         0x52 => entries::dec(Half::High(Y), 9),
         0x58 => entries::to_x(Word::P, 11),
-        0x59 => entries::memory(Change::And, at, 17),
+        0x59 => entries::memory(Change::Ani, at, 17),
         0x5a => entries::from_x(Word::Of(Y), 11),
-        0x5b => entries::memory(Change::Ora, at, 17),
+        0x5b => entries::memory(Change::Ori, at, 17),
         0x5d => entries::bii(at, 14),
         0x5e => entries::from_x(Word::P, 11),
-        0x5f => entries::memory(Change::Add, at, 17),
+        0x5f => entries::memory(Change::Adi, at, 17),
         _ => row_6(byte),
     }
 }
@@ -139,11 +139,11 @@ fn row_6(byte: u8) -> Decoded
     match byte {
         0x60 => entries::inc(Half::High(U), 9),
         0x62 => entries::dec(Half::High(U), 9),
-        0x69 => entries::memory(Change::And, at, 17),
+        0x69 => entries::memory(Change::Ani, at, 17),
         0x6a => entries::from_x(Word::Of(U), 11),
-        0x6b => entries::memory(Change::Ora, at, 17),
+        0x6b => entries::memory(Change::Ori, at, 17),
         0x6d => entries::bii(at, 14),
-        0x6f => entries::memory(Change::Add, at, 17),
+        0x6f => entries::memory(Change::Adi, at, 17),
         _ => row_8(byte),
     }
 }
@@ -225,7 +225,6 @@ fn row_c(byte: u8) -> Decoded
 fn row_d(byte: u8) -> Decoded
     ensures { λ d. ⌜ d ≡ chained (drop 13 rowsFd) 13 byte ⌝ }
 {
-    let at = Place::Pointer(Page::Me1, X);
     match byte {
         0xd3 => Decoded::Listed(Instruction::Drr(Page::Me1), 16),
         0xd7 => Decoded::Listed(Instruction::Drl(Page::Me1), 16),
@@ -242,12 +241,12 @@ fn row_e(byte: u8) -> Decoded
 {
     let fixed = Place::Fixed(Page::Me1);
     match byte {
-        0xe9 => entries::memory(Change::And, fixed, 23),
+        0xe9 => entries::memory(Change::Ani, fixed, 23),
         0xea => entries::adr(U, 11),
-        0xeb => entries::memory(Change::Ora, fixed, 23),
+        0xeb => entries::memory(Change::Ori, fixed, 23),
         0xec => entries::accumulator(Accumulator::Att, 9),
         0xed => entries::bii(fixed, 20),
-        0xef => entries::memory(Change::Add, fixed, 23),
+        0xef => entries::memory(Change::Adi, fixed, 23),
         _ => Decoded::Unlisted,
     }
 }

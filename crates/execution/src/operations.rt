@@ -49,7 +49,7 @@ pub fn sta(cpu: Lh5801, page0: &mut [u8], page1: &mut [u8], place: Place) -> Lh5
     ensures { λ r. ⌜ Changes (staOf cpu place) page0 page1 r ⌝ }
 {
     match place {
-        Place::Half(h) => places::set_half(cpu, h, cpu.a),
+        Place::InHalf(h) => places::set_half(cpu, h, cpu.a),
         _ => store(cpu, page0, page1, place),
     }
 }
@@ -59,21 +59,21 @@ fn changed(t: u8, o: Change, byte: u8, v: u8) -> arithmetic::Sum
     ensures { λ r. ⌜ r ≡ changedOf t o byte v ⌝ }
 {
     match o {
-        Change::And => {
+        Change::Ani => {
             let flags = arithmetic::check_z(t, byte & v);
             arithmetic::Sum {
                 value: byte & v,
                 t: flags,
             }
         }
-        Change::Ora => {
+        Change::Ori => {
             let flags = arithmetic::check_z(t, byte | v);
             arithmetic::Sum {
                 value: byte | v,
                 t: flags,
             }
         }
-        Change::Add => arithmetic::add_generic(t, byte, v, false),
+        Change::Adi => arithmetic::add_generic(t, byte, v, false),
     }
 }
 

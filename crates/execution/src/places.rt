@@ -12,12 +12,12 @@ pub enum Register {
     U,
 }
 
-// A half of a register. None stands for the register that rows 3 and 7 name and the LH5801 does
+// A half of a register. Missing stands for the register that rows 3 and 7 name and the LH5801 does
 // not have: it reads 0, and what is put there is lost.
 pub enum Half {
     High(Register),
     Low(Register),
-    None,
+    Missing,
 }
 
 // Page 0 is addressed 0 to FFFF, page 1 is 10000 to 1FFFF.
@@ -29,7 +29,7 @@ pub enum Page {
 // Where an operand lies: in a half of a register, in memory where a register points, in memory at
 // the word in the code, or in the code itself.
 pub enum Place {
-    Half(Half),
+    InHalf(Half),
     Pointer(Page, Register),
     Fixed(Page),
     InCode,
@@ -73,7 +73,7 @@ fn register_of(h: Half) -> Register
     match h {
         Half::High(r) => r,
         Half::Low(r) => r,
-        Half::None => Register::X,
+        Half::Missing => Register::X,
     }
 }
 
@@ -84,7 +84,7 @@ fn half_of(w: u16, h: Half) -> u8
     match h {
         Half::High(r) => (w / 256) as u8,
         Half::Low(r) => (w % 256) as u8,
-        Half::None => 0,
+        Half::Missing => 0,
     }
 }
 
@@ -102,7 +102,7 @@ pub fn set_half(cpu: Lh5801, h: Half, v: u8) -> Lh5801
     match h {
         Half::High(r) => set_word(cpu, r, v as u16 * 256 + get_word(cpu, r) % 256),
         Half::Low(r) => set_word(cpu, r, get_word(cpu, r) / 256 * 256 + v as u16),
-        Half::None => cpu,
+        Half::Missing => cpu,
     }
 }
 
@@ -134,7 +134,7 @@ pub fn locate(at: u16, p: u16, page0: &[u8], page1: &[u8], place: Place) -> Loca
             Located { addr: addr, p: p }
         }
         Place::Fixed(page) => fixed(p, page0, page1, page),
-        Place::Half(h) => Located { addr: 0, p: p },
+        Place::InHalf(h) => Located { addr: 0, p: p },
         Place::InCode => Located { addr: 0, p: p },
     }
 }
@@ -145,7 +145,7 @@ fn register_at(place: Place) -> Register
 {
     match place {
         Place::Pointer(page, r) => r,
-        Place::Half(h) => register_of(h),
+        Place::InHalf(h) => register_of(h),
         Place::Fixed(page) => Register::X,
         Place::InCode => Register::X,
     }
@@ -175,7 +175,7 @@ pub fn operand(at: u16, p: u16, page0: &[u8], page1: &[u8], place: Place) -> Cod
             CodeByte { value: b, p: l.p }
         }
         Place::InCode => pages::cpu_readop(p, page0, page1),
-        Place::Half(h) => {
+        Place::InHalf(h) => {
             let b = half_of(at, h);
             CodeByte { value: b, p: p }
         }

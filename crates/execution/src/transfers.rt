@@ -113,8 +113,8 @@ pub fn accumulator(cpu: Lh5801, i: Accumulator, keyboard: u8) -> Lh5801
     ensures { λ m. ⌜ m ≡ onAOf cpu i keyboard ⌝ }
 {
     match i {
-        Accumulator::Inc => inc_a(cpu),
-        Accumulator::Dec => dec_a(cpu),
+        Accumulator::IncA => inc_a(cpu),
+        Accumulator::DecA => dec_a(cpu),
         Accumulator::Ror => arithmetic::ror(cpu),
         Accumulator::Shr => arithmetic::shr(cpu),
         Accumulator::Shl => arithmetic::shl(cpu),
@@ -136,7 +136,7 @@ pub fn signal(cpu: Lh5801, s: Signal, value: bool) -> Lh5801
         Signal::Pu => cpu.with_pu(value),
         Signal::Pv => cpu.with_pv(value),
         Signal::Disp => cpu.with_disp(value),
-        Signal::Carry => cpu.with_t(arithmetic::set_flag(cpu.t, arithmetic::CF, value)),
+        Signal::CarryFlag => cpu.with_t(arithmetic::set_flag(cpu.t, arithmetic::CF, value)),
         Signal::InterruptEnable => cpu.with_t(arithmetic::set_flag(cpu.t, arithmetic::IE, value)),
     }
 }
@@ -157,7 +157,7 @@ pub fn push_from(cpu: Lh5801, page0: &mut [u8], page1: &mut [u8], r: Register) -
     pages::push_word(cpu, page0, page1, w)
 }
 
-// X from Y, U, S or P.
+// X from X, Y, U, S or P: X itself in FD 08, which changes nothing.
 pub fn to_x(cpu: Lh5801, w: Word) -> Lh5801
     ensures { λ m. ⌜ m ≡ toXOf cpu w ⌝ }
 {
@@ -168,7 +168,7 @@ pub fn to_x(cpu: Lh5801, w: Word) -> Lh5801
     }
 }
 
-// X to Y, U, S or P.
+// X to X, Y, U, S or P: X itself in FD 4A, which changes nothing.
 pub fn from_x(cpu: Lh5801, w: Word) -> Lh5801
     ensures { λ m. ⌜ m ≡ fromXOf cpu w ⌝ }
 {

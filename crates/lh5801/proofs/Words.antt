@@ -1,5 +1,4 @@
 -- Laws of the sixteen words: what is taken fits the record, and what comes back is taken as it is.
--- Assumes nothing.
 use Prim.Native.Nat.{ℕ, _-_, _%_, _^_, _≤_}
 use mathlib.Core.Path.{_≡_, refl, ap, _∙_}
 use mathlib.Core.Bool.{Bool, true, false, cond}
@@ -8,7 +7,7 @@ use native.Mathlib.Omega.{arith}
 use lib.Dec.{ltb}
 use lib.ListN.{length, getD, take}
 use borrow.Author.Tests.{le-ltb, ltb-false}
-use Rattle.execution.specs.declared.Stop.the-variants.{Unlisted as UnlistedByte, UnlistedFd, Halted}
+use Rattle.execution.specs.declared.Stop.the-variants.{UnlistedFirst, UnlistedFd, Halted}
 use Rattle.run.specs.declared.Answer.{Answer}
 use Rattle.run.specs.declared.End.{End}
 use Rattle.run.specs.declared.End.the-variants.{AllSteps, Page0Length, Page1Length, TimerValue, Limit, Step}
@@ -35,7 +34,7 @@ number-small Page0Length = omega arith
 number-small Page1Length = omega arith
 number-small TimerValue = omega arith
 number-small Limit = omega arith
-number-small (Step (UnlistedByte b)) = omega arith
+number-small (Step (UnlistedFirst b)) = omega arith
 number-small (Step (UnlistedFd b)) = omega arith
 number-small (Step Halted) = omega arith
 

@@ -46,9 +46,9 @@ fn words_of(r: Answer) -> [u64; 16]
 {
     let cpu = r.cpu;
     let end = r.end;
-    let numbers = record_numbers::numbers_of(cpu);
-    let number = record_numbers::byte(run::number(end));
-    let byte = record_numbers::byte(run::byte(end));
+    let numbers = record_numbers::from_record(cpu);
+    let number = record_numbers::byte_number(run::number(end));
+    let byte = record_numbers::byte_number(run::byte(end));
     [
         numbers[0],
         numbers[1],

@@ -1,5 +1,5 @@
 -- How what functions do on the lent pages is put together. Callers cite these laws and open neither `exec` nor the pages.
-use mathlib.Core.Path.{_≡_, refl, sym, ap, _∙_}
+use mathlib.Core.Path.{_≡_, refl, sym, ap, subst, _∙_}
 use mathlib.Core.List.{List}
 use Prim.Native.Nat.{ℕ, _-_, _<_, _≤_}
 use lib.ListN.{getD, set}
@@ -27,16 +27,23 @@ pub does-mapped : {A B : Type 0} (f : A → B) {p : Prog A} {m n : Pages} {r : A
 unfolding mapped
 does-mapped f d = does-then _ d (does-done refl)
 
+-- and back: what the other answer says of the program's own, and the pages that it leaves
+module _ {A B : Type 0} (f : A → B) (p : Prog A) {m n : Pages} {r : B} (d : Does (mapped f p) m r n) where
+  pub mapped-value : r ≡ f (exec p m .answer)
+  unfolding mapped exec
+  mapped-value = d .value ∙ bind-answer p (λ a. done (f a)) m
+
+  pub mapped-pages : exec p m .pages ≡ n
+  unfolding mapped exec
+  mapped-pages = sym (bind-pages p (λ a. done (f a)) m) ∙ d .pages
+
 -- an answer that the program's own answer gives by f gives the one by g
 pub does-through : {A B C : Type 0} (f : A → B) (g : A → C) (h : B → C) → ((a : A) → h (f a) ≡ g a) → (p : Prog A) {m n : Pages} {r : B}
     → Does (mapped f p) m r n
     → Does (mapped g p) m (h r) n
-unfolding mapped exec
-does-through f g h e p {m} d =
-    record {
-      value = ap h (d .value ∙ bind-answer p (λ a. done (f a)) m) ∙ e (exec p m .answer) ∙ sym (bind-answer p (λ a. done (g a)) m);
-      pages = bind-pages p (λ a. done (g a)) m ∙ sym (bind-pages p (λ a. done (f a)) m) ∙ d .pages;
-    }
+does-through f g h e p {m} {n} d =
+    subst (λ c. Does (mapped g p) m c n) (sym (ap h (mapped-value f p d) ∙ e (exec p m .answer)))
+    (does-mapped g (record { value = refl; pages = mapped-pages f p d }))
 
 -- one access
 pub does-read : (a : ℕ) {b : ℕ} {m : Pages} → b ≡ at m a → Does (read a) m b m

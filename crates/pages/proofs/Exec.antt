@@ -5,7 +5,9 @@ use mathlib.Core.List.{List, [], _∷_, _++_}
 use Prim.Native.Nat.{ℕ}
 use lib.Dec.{eqb}
 use Rattle.pages.specs.Pages.{Pages, at, stored, store, SameLength}
-use Rattle.pages.specs.Prog.{Prog, done, get, put, _>>=_, readOf, writeOf, after, exec}
+use Rattle.pages.specs.declared.CodeByte.{CodeByte}
+use Rattle.pages.specs.Prog.{Prog, done, get, put, _>>=_, read, readOf, writeOf, after, exec}
+use Rattle.pages.specs.Stack.{readopOf}
 use Rattle.pages.specs.Written.{Write, writes, latest, Written}
 use Rattle.pages.proofs.Pages.{long-refl, long-trans, store-long, stored-long, at-store}
 
@@ -26,6 +28,17 @@ pub done-answer : {A : Type 0} (a : A) (m : Pages) → exec (done a) m .answer �
 unfolding exec
 done-answer a m = refl
 
+-- an answer, and then the next
+pub done-then : {A B : Type 0} (a : A) (f : A → Prog B) → done a >>= f ≡ f a
+unfolding _>>=_
+done-then a f = refl
+
+-- a byte, and then a byte of the code: two reads, in this order
+pub read-then-readop : {A : Type 0} (a p : ℕ) (f : ℕ → CodeByte → A) (m : Pages)
+    → exec (read a >>= (λ b. readopOf p >>= (λ c. done (f b c)))) m .accesses ≡ readOf a (at m a) ∷ readOf p (at m p) ∷ []
+unfolding exec after read readopOf _>>=_
+read-then-readop a p f m = refl
+
 -- a program whose answer is only changed, and then the next
 pub bind-done : {A B C : Type 0} (p : Prog A) (g : A → B) (f : B → Prog C) → (p >>= (λ a. done (g a))) >>= f ≡ p >>= (λ a. f (g a))
 unfolding _>>=_
@@ -40,10 +53,6 @@ bind-answer p f m = ap (λ x. x .answer) (exec-bind p f m)
 pub bind-pages : {A B : Type 0} (p : Prog A) (f : A → Prog B) (m : Pages)
     → exec (p >>= f) m .pages ≡ exec (f (exec p m .answer)) (exec p m .pages) .pages
 bind-pages p f m = ap (λ x. x .pages) (exec-bind p f m)
-
-pub bind-accesses : {A B : Type 0} (p : Prog A) (f : A → Prog B) (m : Pages)
-    → exec (p >>= f) m .accesses ≡ exec p m .accesses ++ exec (f (exec p m .answer)) (exec p m .pages) .accesses
-bind-accesses p f m = ap (λ x. x .accesses) (exec-bind p f m)
 
 -- a program keeps the lengths
 pub exec-long : {A : Type 0} (p : Prog A) (m : Pages) → SameLength m (exec p m .pages)
@@ -80,7 +89,7 @@ exec-written p m = record { long = exec-long p m; bytes = exec-bytes p m }
 latest-append : (a : ℕ) (xs ys : List Write) (d : ℕ) → latest a (xs ++ ys) d ≡ latest a ys (latest a xs d)
 unfolding latest
 latest-append a [] ys d = refl
-latest-append a (x ∷ xs) ys d = latest-append a xs ys (cond (eqb a (x .place)) (x .byte) d)
+latest-append a (x ∷ xs) ys d = latest-append a xs ys (cond (eqb a (x .address)) (x .byte) d)
 
 -- no write, and writes after writes
 pub written-none : (m : Pages) → Written m [] m

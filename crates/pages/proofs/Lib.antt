@@ -3,7 +3,7 @@ pub mod Exec
 pub mod Agree
 pub mod Does
 pub mod Always
-pub mod Within
+pub mod AtMost
 pub mod Clean
 pub mod Stack
 pub mod Timer

@@ -10,7 +10,7 @@ use Rattle.pages.specs.Prog.{_>>=_, read, write}
 use Rattle.pages.specs.Stack.{down16, mem16Of, pushOf, pushWordOf, popOf, pushStateOf, acceptOf}
 use Rattle.pages.proofs.Always.{Always}
 
--- one less, wrapping, is the one number of 16 bits that 1 added to wraps back
+-- one less, wrapping, is the one number of 16 bits that gives the number back when 1 is added
 pub down-only : {r n : ℕ} → r < 0x10000 → (r + 1) % 2 ^ 16 ≡ n → r ≡ down16 n
 down-only h e = omega arith
 

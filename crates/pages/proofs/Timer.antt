@@ -1,5 +1,5 @@
 -- The laws of the timer.
-use mathlib.Core.Path.{_≡_, refl, ap, _∙_}
+use mathlib.Core.Path.{_≡_, refl, ap, subst, sym, _∙_}
 use mathlib.Core.Bool.{Bool, true, false, cond}
 use Prim.Native.Nat.{ℕ, _+_, _<_, _≤_, _/_, _%_, _^_}
 use native.Mathlib.Omega.{arith}
@@ -7,8 +7,8 @@ use lib.Bits.{bitXor}
 use lib.Dec.{T, eqb, eqb→eq, leb}
 use borrow.Author.Tests.{le-leb, lt-leb}
 use Rattle.arithmetic.specs.declared.record.Lh5801.{Lh5801}
-use Rattle.arithmetic.specs.Record.{with-tm, with-is-timer-reached, with-timer-state, with-step-previous-state}
-use Rattle.arithmetic.proofs.Status.{Status, statusOf, withTimer, withTicks, keeps-states, status-ticks}
+use Rattle.arithmetic.specs.Record.{with-tm, with-timer-state, with-step-previous-state}
+use Rattle.arithmetic.proofs.Status.{Status, statusOf, withTimer, withTicks, keeps-previous, keeps-states, status-tm, status-reached, status-ticks}
 use Rattle.arithmetic.proofs.Compute.{both, both-left, both-right, every, at as test-at}
 use Rattle.pages.specs.Timer.{shiftOf, timerIncOf, addStateOf, passedOf, timerPartOf}
 
@@ -34,7 +34,7 @@ pub shift-small : (tm : ℕ) → tm < 512 → shiftOf tm < 512
 unfolding shiftOf
 shift-small tm h = omega arith
 
--- the states passed are the difference that wraps: the one number of 64 bits that previous adds to the current count with
+-- the states passed are the difference that wraps: the one number of 64 bits that, added to previous, gives the current count
 pub passed-is : (m : Lh5801) → m .«timer_state» < 2 ^ 64 → m .«step_previous_state» < 2 ^ 64
     → (passedOf m < 2 ^ 64) × ((passedOf m + m .«step_previous_state») % 2 ^ 64 ≡ m .«timer_state»)
 unfolding passedOf
@@ -55,38 +55,36 @@ pub timer-part-due : (m : Lh5801) → 42 ≤ passedOf m → timerPartOf m ≡ wi
 unfolding timerPartOf
 timer-part-due m h = rw (le-leb 42 (passedOf m) h)
 
+-- a shift with previous set: TM and timer reached change, and nothing else of the status
+shifted-status : (m : Lh5801)
+    → statusOf (with-step-previous-state (timerIncOf m) (m .«timer_state»)) ≡ withTimer (statusOf m) (shiftOf (m .tm)) (eqb (shiftOf (m .tm)) 0x1FF)
+unfolding timerIncOf
+shifted-status m =
+    keeps-previous _ _
+    ∙ status-reached (with-tm m _) _
+    ∙ ap (λ (s : Status). withTimer s (s .tm) (eqb (shiftOf (m .tm)) 0x1FF)) (status-tm m _)
+
 -- the timer part keeps TM at most 511
 pub timer-part-small : (m : Lh5801) → m .tm < 512 → timerPartOf m .tm < 512
-unfolding timerPartOf timerIncOf with-tm with-is-timer-reached with-step-previous-state
+unfolding timerPartOf
 timer-part-small m h = go (leb 42 (passedOf m))
   where
     go : (t : Bool) → cond t (with-step-previous-state (timerIncOf m) (m .«timer_state»)) m .tm < 512
-    go true = shift-small (m .tm) h
+    go true = subst (λ (n : ℕ). n < 512) (sym (ap (λ (s : Status). s .tm) (shifted-status m))) (shift-small (m .tm) h)
     go false = h
 
 -- of the status it changes TM and timer reached only, and states that pass change the ticks only
 pub timer-part-status : (m : Lh5801) → statusOf (timerPartOf m) ≡ withTimer (statusOf m) (timerPartOf m .tm) (timerPartOf m .«is_timer_reached»)
-unfolding timerPartOf timerIncOf with-tm with-is-timer-reached with-step-previous-state
+unfolding timerPartOf
 timer-part-status m = go (leb 42 (passedOf m))
   where
     after : Bool → Lh5801
     after t = cond t (with-step-previous-state (timerIncOf m) (m .«timer_state»)) m
 
     go : (t : Bool) → statusOf (after t) ≡ withTimer (statusOf m) (after t .tm) (after t .«is_timer_reached»)
-    go true = refl
+    go true = shifted-status m ∙ ap (λ (s : Status). withTimer (statusOf m) (s .tm) (s .reached)) (sym (shifted-status m))
     go false = refl
 
 pub states-status : (m : Lh5801) (n : ℕ) → statusOf (addStateOf m n) ≡ withTicks (statusOf m) ((m .ticks + n) % 2 ^ 64)
 unfolding addStateOf
 states-status m n = status-ticks (with-timer-state m _) _ ∙ ap (λ (s : Status). withTicks s ((m .ticks + n) % 2 ^ 64)) (keeps-states m _)
-
--- 41 states passed: nothing changes
-pub passed-41 : (m : Lh5801) → passedOf m ≡ 41 → timerPartOf m ≡ m
-passed-41 m e = timer-part-early m (omega arith)
-
--- 42 states passed: TM shifts once, and previous becomes the current count; after 84 too it shifts once, and the rest is lost
-pub passed-42 : (m : Lh5801) → passedOf m ≡ 42 → timerPartOf m ≡ with-step-previous-state (timerIncOf m) (m .«timer_state»)
-passed-42 m e = timer-part-due m (omega arith)
-
-pub passed-84 : (m : Lh5801) → passedOf m ≡ 84 → timerPartOf m ≡ with-step-previous-state (timerIncOf m) (m .«timer_state»)
-passed-84 m e = timer-part-due m (omega arith)

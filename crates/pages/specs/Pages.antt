@@ -1,4 +1,4 @@
--- The two lent pages as one memory (document 01, "Record and pages"). Nothing above this crate opens the lists.
+-- The two lent pages as one memory (document 01, "Record and pages").
 use Prim.Native.Nat.{ℕ, _-_}
 use mathlib.Core.Bool.{Bool, cond}
 use mathlib.Core.List.{List}

@@ -69,12 +69,13 @@ popWordOf s = do
   low ← read (up16 (up16 s))
   done (record { value = wordOf high low; s = up16 (up16 s) })
 
--- an accepted interrupt: "push T, clear IE, .. push P, P from" its vector, "halted clear". T is pushed with IE still set
+-- T is pushed with IE still set, then IE is cleared, then P is pushed
 unfoldable pub pushStateOf : Lh5801 → Prog Lh5801
 pushStateOf m = do
   k ← pushOf m (m .t)
   pushWordOf (with-t k (setFlag (m .t) IE false)) (m .p)
 
+-- an accepted interrupt: "push T, clear IE, .. push P, P from" its vector, "halted clear"
 unfoldable pub acceptOf : Lh5801 → ℕ → Prog Lh5801
 acceptOf m vector = do
   k ← pushStateOf m

@@ -17,7 +17,7 @@ timerIncOf m = with-is-timer-reached (with-tm m (shiftOf (m .tm))) (eqb (shiftOf
 unfoldable pub addStateOf : Lh5801 → ℕ → Lh5801
 addStateOf m n = with-ticks (with-timer-state m ((m .«timer_state» + n) % 2 ^ 64)) ((m .ticks + n) % 2 ^ 64)
 
--- the states passed since the last shift: "timer states minus previous (wrapping)"
+-- the states passed since previous was set: "timer states minus previous (wrapping)"
 unfoldable pub passedOf : Lh5801 → ℕ
 passedOf m = (m .«timer_state» + (2 ^ 64 - m .«step_previous_state»)) % 2 ^ 64
 

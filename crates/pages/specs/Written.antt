@@ -9,19 +9,19 @@ use Rattle.pages.specs.Prog.{Access, readOf, writeOf}
 
 -- a write of the sequence, a dropped one included: its address and its byte
 pub record Write : Type 0 where
-  pub place : ℕ
+  pub address : ℕ
   pub byte : ℕ
 
 -- the writes among the accesses, in order
 unfoldable pub writes : List Access → List Write
 writes [] = []
 writes (readOf a b ∷ l) = writes l
-writes (writeOf a v ∷ l) = record { place = a; byte = v } ∷ writes l
+writes (writeOf a v ∷ l) = record { address = a; byte = v } ∷ writes l
 
 -- what was last written at a, or d where nothing was
 unfoldable pub latest : ℕ → List Write → ℕ → ℕ
 latest a [] d = d
-latest a (w ∷ ws) d = latest a ws (cond (eqb a (w .place)) (w .byte) d)
+latest a (w ∷ ws) d = latest a ws (cond (eqb a (w .address)) (w .byte) d)
 
 -- from the pages m and with the writes ws, the pages e are what they must be: as long, and at every address, a byte that stores its writes holds
 -- what was last written there, if anything was, and every other byte is its own

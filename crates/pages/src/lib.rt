@@ -175,14 +175,14 @@ pub fn timer_inc(cpu: Lh5801) -> Lh5801
     cpu.with_tm(next).with_is_timer_reached(next == 511)
 }
 
-// The states since the last shift; the difference wraps.
+// The states since previous was set; the difference wraps.
 fn passed(cpu: Lh5801) -> u64
     ensures { λ r. ⌜ r ≡ passedOf cpu ⌝ }
 {
     std::num::wrapping_sub_u64(cpu.timer_state, cpu.step_previous_state)
 }
 
-// One shift where 42 states or more have passed since the last.
+// One shift where 42 states or more have passed since previous was set.
 pub fn timer_part(cpu: Lh5801) -> Lh5801
     requires { ⌜ cpu .tm < 512 ⌝ }
     ensures { λ r. ⌜ r ≡ timerPartOf cpu ⌝ }

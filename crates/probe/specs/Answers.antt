@@ -1,4 +1,4 @@
--- What the entries for the comparison with the original answer: the definitions of `arithmetic`, put into one number.
+-- The answers of the C functions that the comparison with the original calls: the definitions of `arithmetic`, put into one number.
 use Prim.Native.Nat.{ℕ, _+_, _*_}
 use mathlib.Core.Bool.{Bool, true, false}
 use mathlib.Core.List.{List, [], _∷_}

@@ -1,6 +1,5 @@
-// Entries through which oracle/ runs the arithmetic against the original, on every input, and campaign files against its own reader.
+// C functions through which oracle/ runs the arithmetic against the original, on every input, and campaign files against its own reader.
 ghost use mathlib.Core.Path.{_≡_};
-ghost use Prim.Native.Nat.{_+_, _*_};
 ghost use Rattle.run.specs.Line.{Printed};
 ghost use Rattle.run.specs.Report.{reportOf};
 ghost use Rattle.probe.specs.Answers.{blankOf, packed, ofRecord, ofSum, ofMoved, arithmeticAnswer, addAnswer, adrAnswer};

@@ -51,7 +51,7 @@ unfoldable pub differsOf : List ℕ → ℕ → ℕ → Rule → List ℕ → Li
 differsOf file len0 len1 rule sets want wantSums =
     cond (ltb 65537 len0) 1 (cond (ltb 65537 len1) 1 (fileDiffers (campaignOf file 0) file len0 len1 rule sets want wantSums))
 
--- the bytes from a place to another
+-- the bytes from one place to another
 abbrev pub between : List ℕ → ℕ → ℕ → List ℕ
 between bytes from to = part bytes from (to - from)
 

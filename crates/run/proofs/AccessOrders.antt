@@ -8,7 +8,7 @@ use Rattle.arithmetic.specs.Record.{with-a, with-t, with-x, with-y, with-u, wit
 use Rattle.arithmetic.specs.Flags.{withFlags}
 use Rattle.arithmetic.specs.Sums.{addOf, sbcOf, cpaOf}
 use Rattle.arithmetic.specs.Logic.{ldaOf, bitTestOf}
-use Rattle.pages.specs.Pages.{Pages, pages, at, inside, stored, setByte, store}
+use Rattle.pages.specs.Pages.{Pages, at, inside, stored, setByte, store}
 use Rattle.pages.specs.Prog.{_>>=_, read, write, readOf, writeOf, Ran, after, exec}
 use Rattle.pages.specs.Written.{writes, readFirst}
 use Rattle.pages.specs.Stack.{readopOf, readopWordOf, mem16Of, pushOf, pushWordOf, popOf, popWordOf, pushStateOf, acceptOf}
@@ -22,11 +22,11 @@ use Rattle.execution.specs.Step.{StepEnd, fetchOf, decodedStepOf, instructionOf
 use Rattle.run.specs.Acceptance.{notAccepted}
 use Rattle.run.specs.Run.{noStep, completed, oneStep, onward, runOf, accessesAfter, accessesOf, callUnless, callOf}
 use Rattle.run.specs.RecordNumbers.{recordOf}
-use Rattle.run.specs.AccessOrders.{Seen, seenOf, Case, coded, given, enabled, accessOrders, interrupted, long, vectorFirst, twoSteps, callSeen, CallCase, calls}
+use Rattle.run.specs.AccessOrders.{Seen, seenOf, Case, coded, startRecord, enabled, accessOrders, interrupted, long, vectorFirst, twoSteps, callSeen, CallCase, calls}
 
 -- one step with the keyboard byte 77. Whoever unfolds it unfolds all that a step computes through, but the pages
 unfoldable pub stepped : Lh5801 → Pages → Ran StepEnd
-unfolding with-a with-t with-x with-y with-u with-s with-p with-is-halted with-bf with-ir0 with-ir1 with-ir2 with-is-timer-reached with-timer-state with-ticks withFlags addOf sbcOf cpaOf ldaOf bitTestOf _>>=_ read write after exec readopOf readopWordOf mem16Of pushOf pushWordOf popOf popWordOf pushStateOf acceptOf addStateOf passedOf timerPartOf decoded decodedFd locateOf operandOf aluOf storeOf staOf memoryOf biiOf drrOf drlOf loadOf compareOf incWordOf decWordOf storeAtOf loadAtOf sinOf sdeOf linOf ldeOf branchOf lopOf vectorOf vectorIfOf jmpOf sjpOf rtnOf rtiOf loadSOf tinOf cinOf popToOf pushFromOf dropWordOf executeOf fetchOf decodedStepOf instructionOf interruptOf reachedOf poweredOf stepOf recordOf given enabled
+unfolding with-a with-t with-x with-y with-u with-s with-p with-is-halted with-bf with-ir0 with-ir1 with-ir2 with-is-timer-reached with-timer-state with-ticks withFlags addOf sbcOf cpaOf ldaOf bitTestOf _>>=_ read write after exec readopOf readopWordOf mem16Of pushOf pushWordOf popOf popWordOf pushStateOf acceptOf addStateOf passedOf timerPartOf decoded decodedFd locateOf operandOf aluOf storeOf staOf memoryOf biiOf drrOf drlOf loadOf compareOf incWordOf decWordOf storeAtOf loadAtOf sinOf sdeOf linOf ldeOf branchOf lopOf vectorOf vectorIfOf jmpOf sjpOf rtnOf rtiOf loadSOf tinOf cinOf popToOf pushFromOf dropWordOf executeOf fetchOf decodedStepOf instructionOf interruptOf reachedOf poweredOf stepOf recordOf startRecord enabled
 stepped m p = oneStep (ofKeyboard 0x77) m p
 
 abbrev pub stepSeen : Lh5801 → Pages → Seen
@@ -37,7 +37,7 @@ unfolding accessOrders stepped at inside stored setByte store
 access-orders-hold = refl
 
 -- document 01's "dropped" write changes no page
-pub dropped : stepped (with-x given 0x40) (coded (0x0E ∷ [])) .pages ≡ coded (0x0E ∷ [])
+pub dropped : stepped (with-x startRecord 0x40) (coded (0x0E ∷ [])) .pages ≡ coded (0x0E ∷ [])
 unfolding stepped at inside stored setByte store
 dropped = refl
 
@@ -49,7 +49,7 @@ pub pushed-vector : stepped (interrupted 0xFFFB) long .accesses
 unfolding stepped at inside stored setByte store
 pushed-vector = refl
 
--- on any pages that keep what is written there: both are, where the pushes miss them (S at 000C, FFF9 and FFFE); with S at FFFA to FFFD one of
+-- on any pages that keep what is written there: both bytes of the vector are read first, where the pushes miss them (S at 000C, FFF9 and FFFE); with S at FFFA to FFFD one of
 -- them is, or none
 pub vector-first : (p : Pages) → stored p 0xFFFA ≡ true → stored p 0xFFFB ≡ true
     → map (λ (s : ℕ). vectorFirst p (stepped (interrupted s) p .accesses)) (0x000C ∷ 0xFFF9 ∷ 0xFFFA ∷ 0xFFFB ∷ 0xFFFC ∷ 0xFFFD ∷ 0xFFFE ∷ [])
@@ -60,7 +60,7 @@ vector-first p e f = rw (e, f)
 
 -- a vector instruction too: with C0 at 0 and S at FFC1, the pushed P is the vector that is read
 pub pushed-vector-first : (p : Pages) → at p 0x00 ≡ 0xC0 → stored p 0xFFC0 ≡ true → stored p 0xFFC1 ≡ true
-    → map (λ (a : ℕ). readFirst p a (stepped (with-s given 0xFFC1) p .accesses)) (0x00 ∷ 0xFFC0 ∷ 0xFFC1 ∷ []) ≡ true ∷ false ∷ false ∷ []
+    → map (λ (a : ℕ). readFirst p a (stepped (with-s startRecord 0xFFC1) p .accesses)) (0x00 ∷ 0xFFC0 ∷ 0xFFC1 ∷ []) ≡ true ∷ false ∷ false ∷ []
 unfolding readFirst stepped
 pushed-vector-first p h e f = rw (h, e, f)
 
@@ -68,7 +68,7 @@ pushed-vector-first p h e f = rw (h, e, f)
 
 -- with any limit from 2 on, the accesses are those of the completed step and then the two reads of the step that stops with 6
 pub stopping-step-reads : (n : ℕ)
-    → accessesOf (suc (suc n)) (ofKeyboard 0x77) given twoSteps ≡ stepped given twoSteps .accesses ++ (readOf 0x01 0xFD ∷ readOf 0x02 0x00 ∷ [])
+    → accessesOf (suc (suc n)) (ofKeyboard 0x77) startRecord twoSteps ≡ stepped startRecord twoSteps .accesses ++ (readOf 0x01 0xFD ∷ readOf 0x02 0x00 ∷ [])
 unfolding accessesOf accessesAfter stepped at inside stored setByte store
 stopping-step-reads n = refl
 

@@ -10,7 +10,7 @@ use Rattle.pages.specs.Pages.{Pages}
 use Rattle.pages.specs.Written.{Write, Written}
 use Rattle.pages.proofs.Exec.{written-none}
 use Rattle.execution.specs.declared.Stop.{Stop}
-use Rattle.execution.specs.declared.Stop.the-variants.{Unlisted as UnlistedByte, UnlistedFd, Halted}
+use Rattle.execution.specs.declared.Stop.the-variants.{UnlistedFirst, UnlistedFd, Halted}
 use Rattle.execution.specs.Stops.{stopNumber, stopByte}
 use Rattle.execution.specs.Conditions.{HaltedStop, FirstUnlisted, SecondUnlisted}
 use Rattle.execution.proofs.StopConditions.{stops-5, stops-6, stops-7}
@@ -134,17 +134,17 @@ stop-end Page0Length x i j = absurd (omega (arith, stop-number x))
 stop-end Page1Length x i j = absurd (omega (arith, stop-number x))
 stop-end TimerValue x i j = absurd (omega (arith, stop-number x))
 stop-end Limit x i j = absurd (omega (arith, stop-number x))
-stop-end (Step (UnlistedByte a)) (UnlistedByte b) i j = ap (λ n. Step (UnlistedByte n)) j
+stop-end (Step (UnlistedFirst a)) (UnlistedFirst b) i j = ap (λ n. Step (UnlistedFirst n)) j
 stop-end (Step (UnlistedFd a)) (UnlistedFd b) i j = ap (λ n. Step (UnlistedFd n)) j
 stop-end (Step Halted) Halted i j = refl
-stop-end (Step (UnlistedByte a)) (UnlistedFd b) i j = absurd (omega arith)
-stop-end (Step (UnlistedByte a)) Halted i j = absurd (omega arith)
-stop-end (Step (UnlistedFd a)) (UnlistedByte b) i j = absurd (omega arith)
+stop-end (Step (UnlistedFirst a)) (UnlistedFd b) i j = absurd (omega arith)
+stop-end (Step (UnlistedFirst a)) Halted i j = absurd (omega arith)
+stop-end (Step (UnlistedFd a)) (UnlistedFirst b) i j = absurd (omega arith)
 stop-end (Step (UnlistedFd a)) Halted i j = absurd (omega arith)
-stop-end (Step Halted) (UnlistedByte b) i j = absurd (omega arith)
+stop-end (Step Halted) (UnlistedFirst b) i j = absurd (omega arith)
 stop-end (Step Halted) (UnlistedFd b) i j = absurd (omega arith)
 
--- what holds there, and what follows from it
+-- what holds where the steps come to, and what follows from it
 comes-so : {inputs : Inputs} {n : ℕ} {m : Lh5801} {p : Pages} {C D : Lh5801 → Pages → Type 0}
     → ((k : Lh5801) (q : Pages) → C k q → D k q) → ComesTo inputs n m p C → ComesTo inputs n m p D
 comes-so f c = record {
@@ -184,7 +184,7 @@ module _ (s : Settings) (m : Lh5801) (p : Pages) where
   pub number-5 : (b : ℕ)
       → ((callNumber s m p ≡ 5) × (callByte s m p ≡ b))
       ↔ (Accepted s m p × ComesTo (s .inputs) (s .limit) m p (λ k q. FirstUnlisted k q b))
-  number-5 b = stop-where (UnlistedByte b) (λ k q. stops-5 k (s .inputs) q b)
+  number-5 b = stop-where (UnlistedFirst b) (λ k q. stops-5 k (s .inputs) q b)
 
   pub number-6 : (b : ℕ)
       → ((callNumber s m p ≡ 6) × (callByte s m p ≡ b))
@@ -198,7 +198,7 @@ module _ (s : Settings) (m : Lh5801) (p : Pages) where
         λ r. t .1 r .0,
       )
 
--- the states, so long as a completed step adds at most 23
+-- the states: a completed step adds at most 23
 run-states : (n : ℕ) (inputs : Inputs) (m : Lh5801) (p : Pages) → runOf n inputs m p .answer .states ≤ 23 * runOf n inputs m p .answer .steps
 unfolding noStep completed
 run-states n inputs =

@@ -18,7 +18,7 @@ use Rattle.run.proofs.Steps.{run-each, run-written, join, run-split, Sa
 use Rattle.run.proofs.Acceptance.{limit-some, limit-most, call-run}
 
 -- the results xs, one after another, come to the result x
-record Adds (x : CallResult) (xs : List CallResult) : Type 0 where
+record SumsTo (x : CallResult) (xs : List CallResult) : Type 0 where
   some-call : xs ≢ []
   end : getLast xs some-call .answer .end ≡ x .answer .end
   cpu : getLast xs some-call .answer .cpu ≡ x .answer .cpu
@@ -27,9 +27,9 @@ record Adds (x : CallResult) (xs : List CallResult) : Type 0 where
   states : sum (map (λ (o : CallResult). o .answer .states) xs) ≡ x .answer .states
   wrote : flatten (map (λ (o : CallResult). o .wrote) xs) ≡ x .wrote
 
-adds-one : (x : CallResult) → Adds x (x ∷ [])
+sums-one : (x : CallResult) → SumsTo x (x ∷ [])
 unfolding sum flatten
-adds-one x =
+sums-one x =
     record {
       some-call = cons-ne-nil x [];
       end = refl;
@@ -40,9 +40,9 @@ adds-one x =
       wrote = append-nil _;
     }
 
-adds-more : (x : CallResult) {y : CallResult} {ys : List CallResult} → Adds y ys → Adds (join x y) (x ∷ ys)
+sums-more : (x : CallResult) {y : CallResult} {ys : List CallResult} → SumsTo y ys → SumsTo (join x y) (x ∷ ys)
 unfolding sum flatten join
-adds-more x {y} {ys} h =
+sums-more x {y} {ys} h =
     record {
       some-call = cons-ne-nil x ys;
       end = rw (getLast-cons x (h .some-call)) (h .end);
@@ -54,19 +54,19 @@ adds-more x {y} {ys} h =
     }
 
 -- one call, and one before others
-adds-last : (l : ℕ) (inputs : Inputs) (m : Lh5801) (p : Pages) → Accepted (settings inputs l) m p → Adds (runOf (l + 0) inputs m p) (callsOf (l ∷ []) inputs m p)
+sums-last : (l : ℕ) (inputs : Inputs) (m : Lh5801) (p : Pages) → Accepted (settings inputs l) m p → SumsTo (runOf (l + 0) inputs m p) (callsOf (l ∷ []) inputs m p)
 unfolding callsOf
-adds-last l inputs m p h = rw (call-run (settings inputs l) m p h, add-zero) (adds-one _)
+sums-last l inputs m p h = rw (call-run (settings inputs l) m p h, add-zero) (sums-one _)
 
-adds-first : (l n : ℕ) (ls : List ℕ) (inputs : Inputs) (m : Lh5801) (p : Pages) → Accepted (settings inputs l) m p → 1 ≤ n
-    → Adds (runOf n inputs (runOf l inputs m p .answer .cpu) (runOf l inputs m p .pages))
+sums-first : (l n : ℕ) (ls : List ℕ) (inputs : Inputs) (m : Lh5801) (p : Pages) → Accepted (settings inputs l) m p → 1 ≤ n
+    → SumsTo (runOf n inputs (runOf l inputs m p .answer .cpu) (runOf l inputs m p .pages))
     (callsOf ls inputs (runOf l inputs m p .answer .cpu) (runOf l inputs m p .pages))
-    → Adds (runOf (l + n) inputs m p) (callsOf (l ∷ ls) inputs m p)
+    → SumsTo (runOf (l + n) inputs m p) (callsOf (l ∷ ls) inputs m p)
 unfolding callsOf
-adds-first l n ls inputs m p h i rest = rw (call-run (settings inputs l) m p h, ← run-split l n inputs m p i) (adds-more _ rest)
+sums-first l n ls inputs m p h i rest = rw (call-run (settings inputs l) m p h, ← run-split l n inputs m p i) (sums-more _ rest)
 
 -- the calls, from the pages q, come to a result that differs from the run's at most in its pages
-same : {p q : Pages} {run x : CallResult} {xs : List CallResult} → Adds x xs → SameButPages run x
+same : {p q : Pages} {run x : CallResult} {xs : List CallResult} → SumsTo x xs → SameButPages run x
     → Written p (run .wrote) (run .pages)
     → Written q (x .wrote) (x .pages)
     → SameAsRun p q run xs
@@ -128,16 +128,16 @@ all-accepted l (k ∷ ks) inputs m p h i is =
     )
 
 -- the calls come to one run with the sum of their limits
-calls-add : (l : ℕ) (ls : List ℕ) (inputs : Inputs) (m : Lh5801) (p : Pages)
+calls-sum : (l : ℕ) (ls : List ℕ) (inputs : Inputs) (m : Lh5801) (p : Pages)
     → Accepted (settings inputs (l + sum ls)) m p
     → 1 ≤ l
     → AtLeastOne ls
-    → Adds (runOf (l + sum ls) inputs m p) (callsOf (l ∷ ls) inputs m p)
+    → SumsTo (runOf (l + sum ls) inputs m p) (callsOf (l ∷ ls) inputs m p)
 unfolding sum AtLeastOne
-calls-add l [] inputs m p h i is = adds-last l inputs m p (first-accepted l 0 inputs h i)
-calls-add l (k ∷ ks) inputs m p h i is =
-    adds-first l (k + sum ks) (k ∷ ks) inputs m p (first-accepted l (k + sum ks) inputs h i) (omega (arith, is .0))
-    (calls-add k ks inputs _ _ (rest-accepted l (k + sum ks) inputs h (omega (arith, is .0))) (is .0) (is .1))
+calls-sum l [] inputs m p h i is = sums-last l inputs m p (first-accepted l 0 inputs h i)
+calls-sum l (k ∷ ks) inputs m p h i is =
+    sums-first l (k + sum ks) (k ∷ ks) inputs m p (first-accepted l (k + sum ks) inputs h i) (omega (arith, is .0))
+    (calls-sum k ks inputs _ _ (rest-accepted l (k + sum ks) inputs h (omega (arith, is .0))) (is .0) (is .1))
 
 pub demand-3 : Demand3
 unfolding Demand3 sum AtLeastOne
@@ -146,7 +146,7 @@ demand-3 s m p h (k ∷ ks) is e q l agree =
     let a : Accepted (settings (s .inputs) (k + sum ks)) m q = rw e (long-accepted h l) in (
       all-accepted k ks (s .inputs) m q a (is .0) (is .1),
       rw (call-run s m p h)
-          (same (rw e at (calls-add k ks (s .inputs) m q a (is .0) (is .1))) (run-agree (s .limit) (s .inputs) m p q l agree)
+          (same (rw e at (calls-sum k ks (s .inputs) m q a (is .0) (is .1))) (run-agree (s .limit) (s .inputs) m p q l agree)
           (run-written (s .limit) (s .inputs) m p)
           (run-written (s .limit) (s .inputs) m q)),
     )

@@ -86,7 +86,7 @@ pub reaches-all : {inputs : Inputs} {i j : ℕ} {l m k : Lh5801} {o p q : Pages}
 reaches-all start r = simp zero-add r
 reaches-all (next e f) r = rw (suc-add, add-assoc, append-assoc) (next e (reaches-all f r))
 
--- no step leads nowhere
+-- after no steps the record and the pages are the first ones
 pub reaches-none : {inputs : Inputs} {j : ℕ} {m k : Lh5801} {p q : Pages} {t : ℕ} {ws : List Write}
     → Reaches inputs j m p k q t ws
     → j ≡ 0
@@ -110,11 +110,10 @@ module _ {inputs : Inputs} where
   reaches-small start h = h
   reaches-small {m = m} {p = p} (next {n = n} {s = s} {kind = kind} e r) h = reaches-small r (step-small m inputs h p n s kind e)
 
-  pub reaches-ticks : {j : ℕ} {m k : Lh5801} {p q : Pages} {t : ℕ} {ws : List Write} → Reaches inputs j m p k q t ws → m .tm < 512
+  pub reaches-ticks : {j : ℕ} {m k : Lh5801} {p q : Pages} {t : ℕ} {ws : List Write} → Reaches inputs j m p k q t ws
       → k .ticks % 2 ^ 64 ≡ (m .ticks + t) % 2 ^ 64
-  reaches-ticks start h = omega arith
-  reaches-ticks {m = m} {p = p} (next {n = n} {s = s} {kind = kind} e r) h =
-      omega (arith, reaches-ticks r (step-small m inputs h p n s kind e), step-ticks m inputs h p n s kind e)
+  reaches-ticks start = omega arith
+  reaches-ticks {m = m} {p = p} (next {n = n} {s = s} {kind = kind} e r) = omega (arith, reaches-ticks r, step-ticks m inputs p n s kind e)
 
   pub reaches-most : {j : ℕ} {m k : Lh5801} {p q : Pages} {t : ℕ} {ws : List Write} → Reaches inputs j m p k q t ws → t ≤ 23 * j
   reaches-most start = omega arith

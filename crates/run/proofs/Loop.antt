@@ -1,25 +1,24 @@
 -- What the loop of a call keeps, and how a step, a stop and the limit go on from it.
-use Prim.Native.Nat.{ℕ, _+_, _-_, _%_, _^_, _<_, _≤_}
+use Prim.Native.Nat.{ℕ, _+_, _%_, _^_, _<_, _≤_}
 use native.Mathlib.Omega.{arith}
 use native.Mathlib.Numerals.{add-one}
 use mathlib.Core.List.{List, [], _++_}
-use mathlib.Core.Bool.{Bool, true, false, cond}
+use mathlib.Core.Bool.{true}
 use mathlib.Core.Path.{_≡_, refl, sym, ap, subst, _∙_}
 use Rattle.arithmetic.specs.declared.record.Lh5801.{Lh5801}
 use Rattle.execution.specs.declared.Inputs.{Inputs}
-use Rattle.arithmetic.specs.Record.{with-ir1, with-is-timer-reached}
 use lib.ListN.{length}
 use Rattle.pages.specs.Pages.{Pages, pages}
-use Rattle.pages.specs.Prog.{done, mapped, exec}
+use Rattle.pages.specs.Prog.{mapped}
 use Rattle.pages.specs.Contract.{Does}
 use Rattle.pages.specs.Written.{Write, writes}
-use Rattle.pages.proofs.Exec.{bind-answer, bind-pages}
+use Rattle.pages.proofs.Does.{mapped-value, mapped-pages}
 use Rattle.execution.specs.declared.Stop.{Stop}
-use Rattle.execution.specs.declared.Outcome.{Outcome}
 use Rattle.execution.specs.declared.Outcome.the-variants.{Completed, Stopped}
-use Rattle.execution.specs.Step.{Kind, StepEnd, did, stopped, outcomeOf, reachedOf, stepOf}
+use Rattle.execution.specs.Step.{Kind, StepEnd, did, stopped, reachedOf, stepOf}
+use Rattle.execution.specs.Code.Outcomes.{outcomeOf}
 use Rattle.execution.specs.Code.Due.{dueOf, Ready}
-use Rattle.execution.proofs.Order.{step-reached}
+use Rattle.execution.proofs.Order.{reached-back, step-reached}
 use Rattle.execution.proofs.DueTest.{due-on}
 use Rattle.execution.proofs.StopsClean.{stop-no-write}
 use mathlib.Core.Option.{some}
@@ -60,7 +59,7 @@ pub record Executing (inputs : Inputs) (done limit : ℕ) (first : Lh5801) (l0 l
   pub kept : Kept inputs limit first l0 l1 more m n0 n1
   pub ready : Ready m
 
--- the states between two counts are the one number of 64 bits that the first count added to gives the second
+-- the states between two counts are the one number of 64 bits that, added to the first, gives the second
 pub states-only : {r first now : ℕ} → r < 2 ^ 64 → first < 2 ^ 64 → (r + first) % 2 ^ 64 ≡ now → r ≡ statesBetween first now
 states-only h f e = omega arith
 
@@ -79,15 +78,6 @@ stop-outcome : (e : StepEnd) {s : Stop} → Stopped s ≡ outcomeOf e → e ≡ 
 stop-outcome (did l t kind) h = absurd (let z : _≡_ {A = ℕ} 0 1 = cc in omega arith)
 stop-outcome (stopped x) {s} h = let z : x ≡ s = cc in ap stopped z
 
-module _ (m : Lh5801) (inputs : Inputs) {p q : Pages} {r : Outcome} (d : Does (mapped outcomeOf (stepOf m inputs)) p r q) where
-  answered : r ≡ outcomeOf (oneStep inputs m p .answer)
-  unfolding mapped exec
-  answered = d .value ∙ bind-answer (stepOf m inputs) (λ e. done (outcomeOf e)) p
-
-  left : oneStep inputs m p .pages ≡ q
-  unfolding mapped exec
-  left = sym (bind-pages (stepOf m inputs) (λ e. done (outcomeOf e)) p) ∙ d .pages
-
 module _ {inputs : Inputs} {limit : ℕ} {first : Lh5801} {from : Pages} {steps : ℕ} {m : Lh5801} {p : Pages} (g : Going inputs limit first from steps m p) where
   after-did : (s : ℕ) (kind : Kind) (k : Lh5801) → steps < limit → oneStep inputs m p .answer ≡ did k s kind → Going inputs limit first from (steps + 1) k (oneStep inputs m p .pages)
   after-did s kind k h e =
@@ -102,15 +92,15 @@ module _ {inputs : Inputs} {limit : ℕ} {first : Lh5801} {from : Pages} {steps 
   pub go-on : {k : Lh5801} {q : Pages} → steps < limit → Does (mapped outcomeOf (stepOf m inputs)) p (Completed k) q
       → Going inputs limit first from (steps + 1) k q
   go-on {q = q} h d =
-      did-outcome (oneStep inputs m p .answer) (λ k. Going inputs limit first from (steps + 1) k q) (answered m inputs d)
-      (λ s kind k e. subst (Going inputs limit first from (steps + 1) k) (left m inputs d) (after-did s kind k h e))
+      did-outcome (oneStep inputs m p .answer) (λ k. Going inputs limit first from (steps + 1) k q) (mapped-value outcomeOf (stepOf m inputs) d)
+      (λ s kind k e. subst (Going inputs limit first from (steps + 1) k) (mapped-pages outcomeOf (stepOf m inputs) d) (after-did s kind k h e))
 
   pub small : m .tm < 512
   small = reaches-small (g .reached) (g .begun)
 
   -- the states so far, from the ticks
   counted : limit ≤ 1_000_000 → statesBetween (first .ticks) (m .ticks) ≡ g .states
-  counted l = omega (arith, reaches-ticks (g .reached) (g .begun), reaches-most (g .reached), g .within)
+  counted l = omega (arith, reaches-ticks (g .reached), reaches-most (g .reached), g .within)
 
   stop-here : {s : Stop} → steps < limit → limit ≤ 1_000_000 → oneStep inputs m p .answer ≡ stopped s
       → Answers (runOf limit inputs first from) (answerOf (Step s) steps (statesBetween (first .ticks) (m .ticks)) m) p
@@ -145,8 +135,8 @@ led-stop {inputs} {limit} {steps = steps} {q = q} {r = r} {s = s} g l d e =
 stop-step : (m : Lh5801) (inputs : Inputs) {p q : Pages} {s : Stop} → Does (mapped outcomeOf (stepOf m inputs)) p (Stopped s) q
     → (oneStep inputs m p .answer ≡ stopped s) × (q ≡ p)
 stop-step m inputs {p} {s = s} d =
-    let e : oneStep inputs m p .answer ≡ stopped s = stop-outcome (oneStep inputs m p .answer) (answered m inputs d) in
-    (e, sym (left m inputs d) ∙ stop-no-write m inputs p s e .1)
+    let e : oneStep inputs m p .answer ≡ stopped s = stop-outcome (oneStep inputs m p .answer) (mapped-value outcomeOf (stepOf m inputs) d) in
+    (e, sym (mapped-pages outcomeOf (stepOf m inputs) d) ∙ stop-no-write m inputs p s e .1)
 
 -- one step is a stretch
 module _ {inputs : Inputs} {done limit : ℕ} {m : Lh5801} {p q : Pages} (room : done < limit) where
@@ -166,12 +156,8 @@ same-step inputs m due moved = ap (λ (k : Lh5801). stepOf k inputs) moved ∙ s
 
 -- and back
 moved-back : (m : Lh5801) → unmovedOf (reachedOf m) m ≡ m
-unfolding unmovedOf reachedOf with-ir1 with-is-timer-reached
-moved-back m = go (m .«is_timer_reached»)
-  where
-    go : (b : Bool) → unmovedOf (cond b (with-is-timer-reached (with-ir1 m true) false) m) m ≡ m
-    go true = refl
-    go false = refl
+unfolding unmovedOf
+moved-back m = reached-back m
 
 module _ {inputs : Inputs} {done limit : ℕ} {m first : Lh5801} {from : Pages} (due : dueOf m ≡ true) (moved : first ≡ reachedOf m) where
   module _ {more steps : ℕ} {k : Lh5801} {p : Pages} (g : Going inputs limit first from more k p) (e : steps ≡ done + more) where

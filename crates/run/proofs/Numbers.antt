@@ -7,7 +7,7 @@ use Rattle.arithmetic.specs.declared.record.Lh5801.{Lh5801}
 use Rattle.execution.specs.declared.Inputs.{Inputs}
 use Rattle.pages.specs.Pages.{Pages}
 use Rattle.execution.specs.declared.Stop.{Stop}
-use Rattle.execution.specs.declared.Stop.the-variants.{Unlisted as UnlistedByte, UnlistedFd, Halted}
+use Rattle.execution.specs.declared.Stop.the-variants.{UnlistedFirst, UnlistedFd, Halted}
 use Rattle.execution.specs.Stops.{stopNumber}
 use Rattle.run.specs.declared.Settings.{Settings}
 use Rattle.run.specs.declared.End.{End}
@@ -24,13 +24,13 @@ byte-0 Page0Length a b = refl
 byte-0 Page1Length a b = refl
 byte-0 TimerValue a b = refl
 byte-0 Limit a b = refl
-byte-0 (Step (UnlistedByte v)) a b = absurd (a refl)
+byte-0 (Step (UnlistedFirst v)) a b = absurd (a refl)
 byte-0 (Step (UnlistedFd v)) a b = absurd (b refl)
 byte-0 (Step Halted) a b = refl
 
--- the number of a call's steps is none of 1 to 4
+-- the number of a step's stop is none of 1 to 4
 pub stop-number : (s : Stop) → 5 ≤ stopNumber s
-stop-number (UnlistedByte v) = omega arith
+stop-number (UnlistedFirst v) = omega arith
 stop-number (UnlistedFd v) = omega arith
 stop-number Halted = omega arith
 

@@ -1,5 +1,4 @@
--- Laws of a record as numbers: a record's numbers give it back, and numbers within the widths are those of their record.
--- Assumes nothing.
+-- Laws of a record as numbers: a record's numbers give it back, and flags of nine bits are those of their record.
 use Prim.Native.Nat.{ℕ, zero, suc, _+_, _*_, _/_, _%_, _<_, _≤_}
 use mathlib.Core.Path.{_≡_, refl, ap, _∙_}
 use mathlib.Core.Bool.{Bool, true, false}
@@ -127,12 +126,12 @@ flags-back numbers h =
     )
     (bits-sum f h)
 
--- so many entries of a list, from a place on
-abbrev pub entries : ℕ → ℕ → List ℕ → List ℕ
-entries from zero l = []
-entries from (suc more) l = getD l from 0 ∷ entries (suc from) more l
+-- so many elements of a list, from a place on
+abbrev pub elements : ℕ → ℕ → List ℕ → List ℕ
+elements from zero l = []
+elements from (suc more) l = getD l from 0 ∷ elements (suc from) more l
 
-pub entries-are : (from more : ℕ) (l : List ℕ) → length l ≡ from + more → drop from l ≡ entries from more l
-entries-are from zero l e = drop-of-length-le l {i = from} (omega arith)
-entries-are from (suc more) l e =
-    drop-cons l from 0 (omega arith) ∙ ap (λ (r : List ℕ). getD l from 0 ∷ r) (entries-are (suc from) more l (omega arith))
+pub elements-are : (from more : ℕ) (l : List ℕ) → length l ≡ from + more → drop from l ≡ elements from more l
+elements-are from zero l e = drop-of-length-le l {i = from} (omega arith)
+elements-are from (suc more) l e =
+    drop-cons l from 0 (omega arith) ∙ ap (λ (r : List ℕ). getD l from 0 ∷ r) (elements-are (suc from) more l (omega arith))

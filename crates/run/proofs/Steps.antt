@@ -111,14 +111,14 @@ unfolding more
 run-split n zero inputs m p h = absurd (not-suc-le-zero h)
 run-split n (suc l) inputs m p h = run-more n l inputs m p
 
--- two outcomes that differ at most in their pages
+-- two results that differ at most in their pages
 pub record SameButPages (x y : CallResult) : Type 0 where
   pub answer : y .answer ≡ x .answer
   pub wrote : y .wrote ≡ x .wrote
 
-twins-noStep : (e : End) (m : Lh5801) (p q : Pages) → SameButPages (noStep e m p) (noStep e m q)
+same-noStep : (e : End) (m : Lh5801) (p q : Pages) → SameButPages (noStep e m p) (noStep e m q)
 unfolding noStep
-twins-noStep e m p q = record { answer = refl; wrote = refl }
+same-noStep e m p q = record { answer = refl; wrote = refl }
 
 same-completed : (t : ℕ) (ws vs : List Write) (x y : CallResult) → vs ≡ ws → SameButPages x y → SameButPages (completed t ws x) (completed t vs y)
 unfolding completed
@@ -129,10 +129,10 @@ pub run-agree : (n : ℕ) (inputs : Inputs) (m : Lh5801) (p q : Pages) → SameL
     → SameButPages (runOf n inputs m p) (runOf n inputs m q)
 run-agree n inputs m p q l h =
     run-each inputs (λ n m p o. (q : Pages) → SameLength p q → Agree p q (accessesOf n inputs m p) → SameButPages o (runOf n inputs m q))
-    (λ m p q l h. unfold runOf in twins-noStep AllSteps m p q)
+    (λ m p q l h. unfold runOf in same-noStep AllSteps m p q)
     (λ n m p s e q l h.
     let both = exec-agree (stepOf m inputs) p q [] l (rw (accesses-stop inputs m p n e) at h) in
-    rw (run-stop inputs m q n (both .answer ∙ e)) (twins-noStep (Step s) m p q))
+    rw (run-stop inputs m q n (both .answer ∙ e)) (same-noStep (Step s) m p q))
     (λ n m p k t kind e ih q l h.
     let both = exec-agree (stepOf m inputs) p q _ l (rw (accesses-did inputs m p n e) at h) in
     rw (run-did inputs m q n (both .answer ∙ e))

@@ -1,4 +1,4 @@
--- What the code of a run call promises: its answerOf and the pages that it leaves are those of the definition.
+-- What the code of a run call promises: its answer and the pages that it leaves are those of the definition.
 use mathlib.Core.Path.{_≡_}
 use Rattle.pages.specs.Pages.{Pages}
 use Rattle.run.specs.declared.Answer.{Answer}

@@ -7,9 +7,8 @@ use lib.ListN.{length, getD, take, drop}
 use lib.Dec.{leb, ltb, eqb}
 use Rattle.run.specs.declared.campaign_file.Refusal.{Refusal}
 use Rattle.run.specs.declared.campaign_file.Refusal.the-variants.{Ends, Unfit, LeftOver}
-use Rattle.run.specs.declared.campaign_file.Page.{Page}
+use Rattle.run.specs.declared.campaign_file.PagePlace.{PagePlace}
 use Rattle.run.specs.declared.campaign_file.Parsed.{Parsed}
-use Rattle.run.specs.declared.campaign_file.Campaign.{Campaign}
 use Rattle.run.specs.declared.campaign_file.Asked.{Asked}
 use Rattle.arithmetic.specs.declared.record.Lh5801.{Lh5801}
 use Rattle.run.specs.RecordNumbers.{recordNumbers, recordOf, AllWithin}
@@ -107,10 +106,10 @@ abbrev pub longest : ℕ
 longest = 16384
 
 -- so many bytes, a page's own. Where fewer are left the refusal names the page's first byte, after its length
-unfoldable pub bytesOf : ℕ → Reader Page
+unfoldable pub bytesOf : ℕ → Reader PagePlace
 bytesOf len bytes at = cond (ltb (length bytes) (at + len)) (refused (Ends at)) (read (record { at = at; len = len }) (at + len))
 
-unfoldable pub pageOf : Reader Page
+unfoldable pub pageOf : Reader PagePlace
 pageOf = do
   len ← numberOf longest
   bytesOf len
@@ -119,8 +118,8 @@ pageOf = do
 abbrev pub askedOf : List ℕ → Asked
 askedOf values = record { keyboard = getD values 12 0; limit = getD values 13 0 }
 
-abbrev pub partsOf : List ℕ → Page → Page → Parsed
-partsOf values page0 page1 = record {
+abbrev pub parsedOf : List ℕ → PagePlace → PagePlace → Parsed
+parsedOf values page0 page1 = record {
   cpu = recordOf values;
   asked = askedOf values;
   «page0_at» = page0 .at;
@@ -139,7 +138,7 @@ campaignOf = do
   values ← numbersOf greatestValues
   page0 ← pageOf
   page1 ← pageOf
-  ended (partsOf values page0 page1)
+  ended (parsedOf values page0 page1)
 
 -- ---- writing a campaign file
 
@@ -169,8 +168,8 @@ abbrev pub fieldsOf : Lh5801 → Asked → List ℕ
 fieldsOf m asked = recordNumbers m ++ (asked .keyboard ∷ asked .limit ∷ [])
 
 -- the file of these contents
-unfoldable pub written : Contents → List ℕ
-written c = numbersBytes (fieldsOf (c .cpu) (c .asked)) ++ (pageBytes (c .page0) ++ pageBytes (c .page1))
+unfoldable pub fileOf : Contents → List ℕ
+fileOf c = numbersBytes (fieldsOf (c .cpu) (c .asked)) ++ (pageBytes (c .page0) ++ pageBytes (c .page1))
 
 -- every field is at most its greatest value, which the flags of every record are (`flags-small`, proofs/RecordNumbers.antt)
 pub record Within (c : Contents) : Type 0 where
@@ -199,8 +198,3 @@ contentsField bytes (refused stop) = refused stop
 
 unfoldable pub contents : List ℕ → Field Contents
 contents bytes = contentsField bytes (campaignOf bytes 0)
-
--- what the reader answers: all that the file says, or the refusal
-unfoldable pub campaignAnswer : Field Parsed → Campaign
-campaignAnswer (read value next) = Campaign.Read value
-campaignAnswer (refused stop) = Campaign.Refused stop

@@ -9,19 +9,19 @@ use Rattle.run.specs.declared.campaign_file.Refusal.{Refusal}
 use Rattle.run.specs.declared.campaign_file.Refusal.the-variants.{Ends, Unfit, LeftOver}
 
 -- the fields in the file's order: a number with its greatest value, or as many bytes as the number before says
-pub data Kind : Type 0 where
-  number : ℕ → Kind
-  page : Kind
+pub data FieldKind : Type 0 where
+  number : ℕ → FieldKind
+  page : FieldKind
 
-abbrev pub fields : List Kind
+abbrev pub fields : List FieldKind
 fields = map number greatestValues ++ (number longest ∷ page ∷ number longest ∷ page ∷ [])
 
--- all fields before these were read, which ends at a place; the last number read
-pub data Reached (bytes : List ℕ) : List Kind → ℕ → ℕ → Type 0 where
-  start : Reached bytes fields 0 0
-  after-number : {greatest at last value next : ℕ} {left : List Kind} → Reached bytes (number greatest ∷ left) at last → numberOf greatest bytes at ≡ read value next
-      → Reached bytes left next value
-  after-page : {at len : ℕ} {left : List Kind} → Reached bytes (page ∷ left) at len → at + len ≤ length bytes → Reached bytes left (at + len) len
+-- the fields before these were read; the place after them, and the last number read
+pub data ReadUpTo (bytes : List ℕ) : List FieldKind → ℕ → ℕ → Type 0 where
+  start : ReadUpTo bytes fields 0 0
+  after-number : {greatest at last value next : ℕ} {left : List FieldKind} → ReadUpTo bytes (number greatest ∷ left) at last → numberOf greatest bytes at ≡ read value next
+      → ReadUpTo bytes left next value
+  after-page : {at len : ℕ} {left : List FieldKind} → ReadUpTo bytes (page ∷ left) at len → at + len ≤ length bytes → ReadUpTo bytes left (at + len) len
 
 -- "bytes end before or inside a number": fewer than ten are left, each with its top bit set
 pub record EndsInside (bytes : List ℕ) (at : ℕ) : Type 0 where
@@ -40,8 +40,8 @@ pub data UnfitAt (greatest : ℕ) (bytes : List ℕ) (at : ℕ) : Type 0 where
   above : {value count last : ℕ} → groups 10 (drop at bytes) ≡ whole value count last → greatest < value → UnfitAt greatest bytes at
 
 -- why a file is turned down, and where
-pub data Stopped (bytes : List ℕ) : Refusal → Type 0 where
-  ends-in-number : {at last greatest : ℕ} {left : List Kind} → Reached bytes (number greatest ∷ left) at last → EndsInside bytes at → Stopped bytes (Ends at)
-  ends-in-page : {at len : ℕ} {left : List Kind} → Reached bytes (page ∷ left) at len → length bytes < at + len → Stopped bytes (Ends at)
-  unfit : {at last greatest : ℕ} {left : List Kind} → Reached bytes (number greatest ∷ left) at last → UnfitAt greatest bytes at → Stopped bytes (Unfit at)
-  left-over : {at last : ℕ} → Reached bytes [] at last → at < length bytes → Stopped bytes (LeftOver at)
+pub data TurnedDown (bytes : List ℕ) : Refusal → Type 0 where
+  ends-in-number : {at last greatest : ℕ} {left : List FieldKind} → ReadUpTo bytes (number greatest ∷ left) at last → EndsInside bytes at → TurnedDown bytes (Ends at)
+  ends-in-page : {at len : ℕ} {left : List FieldKind} → ReadUpTo bytes (page ∷ left) at len → length bytes < at + len → TurnedDown bytes (Ends at)
+  unfit : {at last greatest : ℕ} {left : List FieldKind} → ReadUpTo bytes (number greatest ∷ left) at last → UnfitAt greatest bytes at → TurnedDown bytes (Unfit at)
+  left-over : {at last : ℕ} → ReadUpTo bytes [] at last → at < length bytes → TurnedDown bytes (LeftOver at)

@@ -39,7 +39,7 @@ pub record SameAsRun (p q : Pages) (run : CallResult) (calls : List CallResult) 
   pub steps : sum (map (λ (o : CallResult). o .answer .steps) calls) ≡ run .answer .steps
   pub states : sum (map (λ (o : CallResult). o .answer .states) calls) ≡ run .answer .states
   pub wrote : flatten (map (λ (o : CallResult). o .wrote) calls) ≡ run .wrote
-  -- "On both sides a written byte holds what was last written there, and each unwritten byte is its own page's"
+  -- on both sides a written byte holds what was last written there, and each unwritten byte is its own page's
   pub run-pages : Written p (run .wrote) (run .pages)
   pub list-pages : Written q (flatten (map (λ (o : CallResult). o .wrote) calls)) (getLast calls some-call .pages)
 

@@ -31,7 +31,7 @@ pub data Reply : Type 0 where
   records : List Lh5801 → Reply
   line : List ℕ → Reply
 
--- ---- the answers by the definitions
+-- ---- the replies by the definitions
 
 abbrev pub endsOf : Ran StepEnd → Reply
 endsOf r = ends (r .answer) (r .pages)
@@ -65,16 +65,16 @@ abbrev pub executes : ℕ → ℕ → Lh5801 → Pages → Lh5801 → ℕ → Pa
 executes n opcode m p k states q = record { number = n; asked = step m p; expected = ends (did k states (instruction false opcode)) q }
 
 -- A, T and the byte that an instruction works on
-pub record Bytes : Type 0 where
+pub record ByteCase : Type 0 where
   pub a : ℕ
   pub t : ℕ
   pub byte : ℕ
 
-abbrev pub bytes : ℕ → ℕ → ℕ → Bytes
-bytes a t byte = record { a = a; t = t; byte = byte }
+abbrev pub byteCase : ℕ → ℕ → ℕ → ByteCase
+byteCase a t byte = record { a = a; t = t; byte = byte }
 
 -- A, T and the byte at X, before and after. X is 1, where the byte stands behind the opcode
-abbrev pub onByte : ℕ → ℕ → Bytes → Bytes → ℕ → MarkedCase
+abbrev pub onByte : ℕ → ℕ → ByteCase → ByteCase → ℕ → MarkedCase
 onByte n opcode b e states =
     executes n opcode
     (cpu (b .a) (b .t) 1 0 0 0) (code2 opcode (b .byte))
@@ -100,20 +100,20 @@ ascii (c ∷ₜ s) = code c ∷ ascii s
 unfoldable pub markedCases : List MarkedCase
 markedCases =
     -- DCA of the byte at X is 8C, DCS is 0C
-    onByte 1 0x8C (bytes 0x15 0x00 0x27) (bytes 0x42 0x18 0x27) 15
-    ∷ onByte 2 0x8C (bytes 0x50 0x00 0x50) (bytes 0x00 0x01 0x50) 15
-    ∷ onByte 3 0x8C (bytes 0x99 0x01 0x99) (bytes 0x99 0x11 0x99) 15
-    ∷ onByte 4 0x0C (bytes 0x20 0x01 0x05) (bytes 0x15 0x01 0x05) 13
-    ∷ onByte 5 0x0C (bytes 0x05 0x01 0x20) (bytes 0x85 0x10 0x20) 13
-    ∷ onByte 6 0x8C (bytes 0x9A 0x00 0x00) (bytes 0x9A 0x04 0x00) 15
+    onByte 1 0x8C (byteCase 0x15 0x00 0x27) (byteCase 0x42 0x18 0x27) 15
+    ∷ onByte 2 0x8C (byteCase 0x50 0x00 0x50) (byteCase 0x00 0x01 0x50) 15
+    ∷ onByte 3 0x8C (byteCase 0x99 0x01 0x99) (byteCase 0x99 0x11 0x99) 15
+    ∷ onByte 4 0x0C (byteCase 0x20 0x01 0x05) (byteCase 0x15 0x01 0x05) 13
+    ∷ onByte 5 0x0C (byteCase 0x05 0x01 0x20) (byteCase 0x85 0x10 0x20) 13
+    ∷ onByte 6 0x8C (byteCase 0x9A 0x00 0x00) (byteCase 0x9A 0x04 0x00) 15
     -- 1FE to 1FF, reached, and on to 0FF, no longer reached
     ∷ record { number = 7; asked = shifts 2 (timer 0x1FE false); expected = records (timer 0x1FF true ∷ timer 0x0FF false ∷ []) }
     -- UH, here 12, stays
     ∷ loops 8 0x1200 0x12FF 2 8
     ∷ loops 9 0x1201 0x1200 0 11
     -- DRL is D7, DRR is D3
-    ∷ onByte 10 0xD7 (bytes 0x12 0x00 0x34) (bytes 0x34 0x00 0x41) 12
-    ∷ onByte 11 0xD3 (bytes 0x12 0x00 0x34) (bytes 0x34 0x00 0x23) 12
+    ∷ onByte 10 0xD7 (byteCase 0x12 0x00 0x34) (byteCase 0x34 0x00 0x41) 12
+    ∷ onByte 11 0xD3 (byteCase 0x12 0x00 0x34) (byteCase 0x34 0x00 0x23) 12
     ∷ executes 12 0x8E (cpu 0 0 0 0 0xFFFE 0) lastBytes (cpu 0 0 0 0 0x0000 8) 8 lastBytes
     ∷ record {
       number = 13;

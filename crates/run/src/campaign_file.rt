@@ -1,11 +1,11 @@
-// Document 01's campaign file: a record, the asked and the two pages of one call, as bytes.
+// Document 01's campaign file: the record, the keyboard byte and the limit, and the two pages of one call, as bytes.
 // The reading place goes in by value, as a `Cursor`, and comes back; each field is either read with its next place or turned down.
 ghost use mathlib.Core.Path.{_≡_};
 ghost use Prim.Native.Nat.{_<_};
 ghost use lib.ListN.{length, getD};
 ghost use Rattle.run.specs.RecordNumbers.{AllWithin};
-ghost use Rattle.run.specs.CampaignFile.{refusalNumber, refusalOffset, checkedOf, numberOf, greatestValues, numbersOf, pageOf, partsOf, campaignOf, campaignAnswer};
-ghost use Rattle.run.specs.Code.FileAnswers.{numberField, numbersField, pageField, numberStop, numbersStop, pageStop};
+ghost use Rattle.run.specs.CampaignFile.{refusalNumber, refusalOffset, checkedOf, numberOf, greatestValues, numbersOf, pageOf, parsedOf, campaignOf};
+ghost use Rattle.run.specs.Code.FileAnswers.{numberField, numbersField, pageField, numberStop, numbersStop, pageStop, campaignAnswer};
 use crate::record_numbers;
 use arithmetic::record::Lh5801;
 
@@ -32,7 +32,7 @@ pub struct Cursor {
     pub at: usize,
 }
 
-// Why a file is turned down, each with the offset that document 01 tells.
+// Why a file is turned down, each with the offset that document 01 names.
 pub enum Refusal {
     // 8: the bytes end before or inside a number or page, which begins here
     Ends(usize),
@@ -61,18 +61,18 @@ pub struct Asked {
 }
 
 // Where a page's bytes begin in the file, and how many they are.
-pub struct Page {
+pub struct PagePlace {
     pub at: usize,
     pub len: usize,
 }
 
 // A page with the place after it, or why the file is turned down.
 pub enum PageRead {
-    Read(Page, Cursor),
+    Read(PagePlace, Cursor),
     Refused(Refusal),
 }
 
-// What a campaign file says: the record, the asked, and where the two pages' bytes are in the file.
+// What a campaign file says: the record, what is asked of the call, and where the two pages' bytes lie in the file.
 pub struct Parsed {
     pub cpu: Lh5801,
     pub asked: Asked,
@@ -180,7 +180,7 @@ impl Cursor {
             if bytes.len() <= at {
                 return Number::Refused(Refusal::Ends(begin));
             }
-            let group = record_numbers::byte(bytes[at]);
+            let group = record_numbers::byte_number(bytes[at]);
             if group < 128 {
                 let shortest = (at == begin) | (group != 0);
                 return checked(begin, at + 1, value + weight * group, shortest, greatest);
@@ -233,14 +233,14 @@ impl Cursor {
         if bytes.len() < at + len {
             return PageRead::Refused(Refusal::Ends(at));
         }
-        PageRead::Read(Page { at: at, len: len }, Cursor { at: at + len })
+        PageRead::Read(PagePlace { at: at, len: len }, Cursor { at: at + len })
     }
 }
 
 // What the numbers and the pages' places say.
-fn parsed_of(values: &[u64; 14], page0: Page, page1: Page) -> Parsed
+fn parsed_of(values: &[u64; 14], page0: PagePlace, page1: PagePlace) -> Parsed
     requires { ⌜ AllWithin greatestValues (now values) ⌝ }
-    ensures { λ r. ⌜ r ≡ partsOf (now (values .entry)) page0 page1 ⌝ }
+    ensures { λ r. ⌜ r ≡ parsedOf (now (values .entry)) page0 page1 ⌝ }
 {
     let cpu = record_numbers::record_of(values);
     let asked = Asked {

@@ -37,7 +37,7 @@ pub enum End {
     Step(execution::Stop),
 }
 
-// What a call tells.
+// What a call returns.
 pub struct Answer {
     pub end: End,
     pub steps: u32,
@@ -231,7 +231,7 @@ pub fn number(end: End) -> u8
         End::TimerValue => 3,
         End::Limit => 4,
         End::Step(stop) => match stop {
-            execution::Stop::Unlisted(byte) => 5,
+            execution::Stop::UnlistedFirst(byte) => 5,
             execution::Stop::UnlistedFd(byte) => 6,
             execution::Stop::Halted => 7,
         },
@@ -244,7 +244,7 @@ pub fn byte(end: End) -> u8
 {
     match end {
         End::Step(stop) => match stop {
-            execution::Stop::Unlisted(byte) => byte,
+            execution::Stop::UnlistedFirst(byte) => byte,
             execution::Stop::UnlistedFd(byte) => byte,
             execution::Stop::Halted => 0,
         },

@@ -6,7 +6,7 @@ ghost use Rattle.arithmetic.specs.Flags.{bitOf};
 ghost use Rattle.run.specs.RecordNumbers.{flagsOf, recordNumbers, recordOf, AllWithin, widths};
 use arithmetic::record::Lh5801;
 
-fn bit(flag: bool) -> u16
+fn bit_of(flag: bool) -> u16
     ensures { λ r. ⌜ (r ≡ bitOf flag) × (r ≤ 1) ⌝ }
 {
     if flag { 1 } else { 0 }
@@ -16,40 +16,40 @@ fn bit(flag: bool) -> u16
 pub fn flags_of(cpu: Lh5801) -> u16
     ensures { λ r. ⌜ (r ≡ flagsOf cpu) × (r ≤ 511) ⌝ }
 {
-    let low = bit(cpu.is_halted) + 2 * bit(cpu.pu) + 4 * bit(cpu.pv) + 8 * bit(cpu.bf);
-    let middle = low + 16 * bit(cpu.disp) + 32 * bit(cpu.ir0) + 64 * bit(cpu.ir1);
-    middle + 128 * bit(cpu.ir2) + 256 * bit(cpu.is_timer_reached)
+    let low = bit_of(cpu.is_halted) + 2 * bit_of(cpu.pu) + 4 * bit_of(cpu.pv) + 8 * bit_of(cpu.bf);
+    let middle = low + 16 * bit_of(cpu.disp) + 32 * bit_of(cpu.ir0) + 64 * bit_of(cpu.ir1);
+    middle + 128 * bit_of(cpu.ir2) + 256 * bit_of(cpu.is_timer_reached)
 }
 
 // 8 bits as a number.
-pub fn byte(value: u8) -> u64
+pub fn byte_number(value: u8) -> u64
     ensures { λ r. ⌜ (r ≡ value) × (r ≤ 255) ⌝ }
 {
     value as u64
 }
 
 // 16 bits as a number.
-fn word(value: u16) -> u64
+fn word_number(value: u16) -> u64
     ensures { λ r. ⌜ (r ≡ value) × (r ≤ 65535) ⌝ }
 {
     value as u64
 }
 
 // The numbers of a record, each within its field's width.
-pub fn numbers_of(cpu: Lh5801) -> [u64; 12]
+pub fn from_record(cpu: Lh5801) -> [u64; 12]
     ensures { λ r. ⌜ (r ≡ recordNumbers cpu) × AllWithin widths (recordNumbers cpu) ⌝ }
 {
     let flags = flags_of(cpu);
     [
-        byte(cpu.a),
-        byte(cpu.t),
-        word(cpu.x),
-        word(cpu.y),
-        word(cpu.u),
-        word(cpu.s),
-        word(cpu.p),
-        word(cpu.tm),
-        word(flags),
+        byte_number(cpu.a),
+        byte_number(cpu.t),
+        word_number(cpu.x),
+        word_number(cpu.y),
+        word_number(cpu.u),
+        word_number(cpu.s),
+        word_number(cpu.p),
+        word_number(cpu.tm),
+        word_number(flags),
         cpu.timer_state,
         cpu.step_previous_state,
         cpu.ticks,

@@ -27,7 +27,7 @@ pub fn settings_of(asked: Asked) -> Settings
 }
 
 // A file that was read: its run call.
-fn answer_of(bytes: &[u8], c: Parsed) -> Answer
+fn file_answer(bytes: &[u8], c: Parsed) -> Answer
     requires { ⌜ (c .«page0_at» + c .«page0_len» ≤ length (now bytes)) × (c .«page0_len» ≤ 16384) ⌝ }
     requires { ⌜ (c .«page1_at» + c .«page1_len» ≤ length (now bytes)) × (c .«page1_len» ≤ 16384) ⌝ }
     ensures { λ r. ⌜ r ≡ callOf (settingsIn (c .asked)) (c .cpu) (pagesIn (now (bytes .entry)) c) .answer ⌝ }
@@ -65,7 +65,7 @@ pub fn report(bytes: &[u8], out: &mut [u8; 200]) -> usize
     let read = campaign_file::read_campaign(bytes);
     match read {
         Campaign::Read(c) => {
-            let a = answer_of(bytes, c);
+            let a = file_answer(bytes, c);
             answer_line(out, a)
         }
         Campaign::Refused(stop) => line::refusal_line(out, stop.number(), stop.offset() as u64),

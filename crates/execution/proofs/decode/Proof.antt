@@ -17,7 +17,7 @@ after-fd true byte e = refl
 after-fd false byte e = absurd (true≢false e)
 
 returns : tie.Need-returns
-returns c = c .decode .ensures ∙ first-page (c .before .before .args .fd) (c .before .before .args .byte) (c .before .if1 .taken)
+returns c = c .decode-first .ensures ∙ first-page (c .before .before .args .fd) (c .before .before .args .byte) (c .before .if1 .taken)
 
 returns-2 : tie.Need-returns-2
 returns-2 c = c .decode-fd .ensures ∙ after-fd (c .before .before .args .fd) (c .before .before .args .byte) (c .before .if1 .left)

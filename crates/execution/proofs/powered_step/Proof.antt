@@ -14,7 +14,7 @@ timer-part-requires-2 : tie.Need-timer-part-requires-2
 timer-part-requires-2 c κs = accept-small _ _ (rw (c .before .before .before .before .before .before .before .acknowledged .ensures, acknowledged-tm (c .before .before .before .before .before .before .before .before .before .before .before .before .before .before .before .args .cpu)) (c .before .before .before .before .before .before .before .before .before .before .before .before .before .before .before .pre .0)) (c .before .before .before .before .accept .ensures)
 
 returns-2 : tie.Need-returns-2
-returns-2 c = step-interrupt (c .before .before .before .before .before .before .before .before .before .before .before .before .before .before .before .before .args .cpu) (c .before .before .before .before .before .before .before .before .before .before .before .before .before .before .before .before .args .inputs) (c .before .before .before .before .before .before .before .before .before .before .before .before .before .before .before .before .pre .1) (c .before .before .before .before .before .before .before .before .before .before .before .before .before .before .before .before .pre .2) (c .before .before .before .before .before .before .before .before .before .before .before .get-flag .result) (c .before .before .before .before .before .before .before .before .before .before .before .get-flag .ensures) (c .before .before .before .before .before .before .before .before .before .before .before .before .before .if1 .left) (c .before .before .before .before .before .before .before .before .before .before .if2 .taken) (c .before .before .before .before .before .before .before .before .acknowledged .ensures) (c .before .before .before .before .before .before .before .before .before .vector-of .ensures) (c .before .before .before .before .before .accept .ensures) (c .timer-part2 .ensures)
+returns-2 c = step-interrupt (c .before .before .before .before .before .before .before .before .before .before .before .before .before .before .before .before .args .cpu) (c .before .before .before .before .before .before .before .before .before .before .before .before .before .before .before .before .args .inputs) (c .before .before .before .before .before .before .before .before .before .before .before .before .before .before .before .before .pre .1) (c .before .before .before .before .before .before .before .before .before .before .before .before .before .before .before .before .pre .2) (c .before .before .before .before .before .before .before .before .before .before .before .get-flag .result) (c .before .before .before .before .before .before .before .before .before .before .before .get-flag .ensures) (c .before .before .before .before .before .before .before .before .before .before .before .before .before .if1 .left) (c .before .before .before .before .before .before .before .before .before .before .if2 .taken) (c .before .before .before .before .before .before .before .before .acknowledged .ensures) (c .before .before .before .before .before .before .before .before .before .interrupt-vector .ensures) (c .before .before .before .before .before .accept .ensures) (c .timer-part2 .ensures)
 
 returns-3 : tie.Need-returns-3
 returns-3 c = step-halted (c .before .before .before .before .before .before .args .cpu) (c .before .before .before .before .before .before .args .inputs) (c .before .before .before .before .before .before .pre .1) (c .before .before .before .before .before .before .pre .2) (c .before .get-flag .result) (c .before .get-flag .ensures) (c .before .before .before .if1 .left) (c .if2 .left) (c .before .before .before .before .before .before .pre .3)

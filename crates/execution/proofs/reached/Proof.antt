@@ -1,6 +1,5 @@
 use mathlib.Core.Path.{_∙_, sym}
 use Rattle.execution.proofs.Order.{reached-moves, reached-stays}
-use Rattle.arithmetic.specs.Record.{with-is-timer-reached}
 use borrow.Author.Needs.{needs}
 use Rattle.execution.proofs.reached.Statement.{statement}
 use Rattle.execution.proofs.reached.Tie as tie

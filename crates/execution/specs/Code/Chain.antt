@@ -1,5 +1,5 @@
 -- How the code is built, and need not be believed: proofs/Table.antt shows that it is the table.
--- The rows of a page one after the other, as the program tries them: each at its own first byte, and the first that lists the byte tells
+-- The rows of a page one after the other, as the program tries them: each at its own first byte, and the first that lists the byte gives
 -- the instruction. `chained (drop i rows) i byte` starts at row i. A byte outside of a row comes to a column past 15, where the row has
 -- no entry.
 use Prim.Native.Nat.{ℕ, suc, _+_, _-_, _*_, _%_}

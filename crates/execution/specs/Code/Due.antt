@@ -1,15 +1,16 @@
--- How the code is built, and need not be believed: proofs/DueTest.antt shows that its test is Conditions.antt's `Due`.
+-- How the code is built, and need not be believed: proofs/DueTest.antt shows that its test is Conditions.antt's `Due`, and proofs/DueAgain.antt
+-- that after a settled instruction one is due again.
 -- When an instruction is due, and after which instructions one is due again: what the loop over instructions goes by.
 use mathlib.Core.Bool.{Bool, true, false, not, _&&_, _||_, cond}
 use mathlib.Core.Path.{_≡_}
 use Rattle.arithmetic.specs.declared.record.Lh5801.{Lh5801}
 use Rattle.arithmetic.specs.Flags.{IE, hasFlag}
 use Rattle.execution.specs.declared.instructions.Accumulator.{Accumulator}
-use Rattle.execution.specs.declared.instructions.Accumulator.the-variants.{Inc as IncA, Dec as DecA, Ror, Shr, Shl, Rol, Aex, Tta, Att, Ita, Am0, Am1}
+use Rattle.execution.specs.declared.instructions.Accumulator.the-variants.{IncA, DecA, Ror, Shr, Shl, Rol, Aex, Tta, Att, Ita, Am0, Am1}
 use Rattle.execution.specs.declared.instructions.Signal.{Signal}
-use Rattle.execution.specs.declared.instructions.Signal.the-variants.{Pu, Pv, Disp, Carry as CarryFlag, InterruptEnable}
+use Rattle.execution.specs.declared.instructions.Signal.the-variants.{Pu, Pv, Disp, CarryFlag, InterruptEnable}
 use Rattle.execution.specs.declared.instructions.Instruction.{Instruction}
-use Rattle.execution.specs.declared.instructions.Instruction.the-variants.{Alu, Sta, Memory, Bii, Drr, Drl, Load, Compare, Inc, Dec, IncWord, DecWord, Sin, Sde, Lin, Lde, Branch, Lop, VectorIf, Vector, Jmp, Sjp, Rtn, Rti, LoadS, Tin, Cin, Accumulator as OnA, Signal as Sets, PopWord, PushWord, PopA, PushA, ToX, FromX, DropWord, Adr, Off, Hlt, Cdv, Nop}
+use Rattle.execution.specs.declared.instructions.Instruction.the-variants.{Alu, Sta, Memory, Bii, Drr, Drl, Load, Compare, Inc, Dec, IncWord, DecWord, Sin, Sde, Lin, Lde, Branch, Lop, VectorIf, Vector, Jmp, Sjp, Rtn, Rti, LoadS, Tin, Cin, OnA, Sets, PopWord, PushWord, PopA, PushA, ToX, FromX, DropWord, Adr, Off, Hlt, Cdv, Nop}
 use Rattle.execution.specs.declared.instructions.Decoded.{Decoded}
 use Rattle.execution.specs.declared.instructions.Decoded.the-variants.{Listed, Unlisted}
 use Rattle.execution.specs.declared.Executed.{Executed}
@@ -24,7 +25,7 @@ dueBy bf ir0 ir1 reached ir2 enabled halted = bf && not ((ir0 || ((ir1 || reache
 abbrev pub dueOf : Lh5801 → Bool
 dueOf m = dueBy (m .bf) (m .ir0) (m .ir1) (m .«is_timer_reached») (m .ir2) (hasFlag (m .t) IE) (m .«is_halted»)
 
--- and timer reached is clear, so that none moves to IR1
+-- the same, with timer reached clear, so that nothing moves to IR1
 pub record Ready (m : Lh5801) : Type 0 where
   pub due : dueOf m ≡ true
   pub clear : m .«is_timer_reached» ≡ false

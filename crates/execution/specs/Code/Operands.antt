@@ -7,10 +7,10 @@ use Rattle.pages.specs.Stack.{readopOf, readopWordOf}
 use Rattle.execution.specs.declared.places.Register.{Register}
 use Rattle.execution.specs.declared.places.Register.the-variants.{X, Y, U}
 use Rattle.execution.specs.declared.places.Half.{Half}
-use Rattle.execution.specs.declared.places.Half.the-variants.{High, Low, None}
+use Rattle.execution.specs.declared.places.Half.the-variants.{High, Low, Missing}
 use Rattle.execution.specs.declared.places.Page.{Page}
 use Rattle.execution.specs.declared.places.Place.{Place}
-use Rattle.execution.specs.declared.places.Place.the-variants.{Half as HalfAt, Pointer, Fixed, InCode}
+use Rattle.execution.specs.declared.places.Place.the-variants.{InHalf, Pointer, Fixed, InCode}
 use Rattle.execution.specs.declared.places.Located.{Located}
 use Rattle.execution.specs.Places.{addressOf, codeByte, located}
 
@@ -24,10 +24,10 @@ chosen x y u U = u
 abbrev pub registerOf : Half → Register
 registerOf (High r) = r
 registerOf (Low r) = r
-registerOf None = X
+registerOf Missing = X
 
 abbrev pub registerAt : Place → Register
-registerAt (HalfAt h) = registerOf h
+registerAt (InHalf h) = registerOf h
 registerAt (Pointer page r) = r
 registerAt (Fixed page) = X
 registerAt InCode = X
@@ -36,7 +36,7 @@ registerAt InCode = X
 abbrev pub halfOf : ℕ → Half → ℕ
 halfOf w (High r) = w / 256
 halfOf w (Low r) = w % 256
-halfOf w None = 0
+halfOf w Missing = 0
 
 unfoldable pub fixedAt : ℕ → Page → Prog Located
 fixedAt p page = do
@@ -45,13 +45,13 @@ fixedAt p page = do
 
 -- w is the word of the place's register
 unfoldable pub locateAt : ℕ → ℕ → Place → Prog Located
-locateAt w p (HalfAt h) = done (located 0 p)
+locateAt w p (InHalf h) = done (located 0 p)
 locateAt w p (Pointer page r) = done (located (addressOf w page) p)
 locateAt w p (Fixed page) = fixedAt p page
 locateAt w p InCode = done (located 0 p)
 
 unfoldable pub operandAt : ℕ → ℕ → Place → Prog CodeByte
-operandAt w p (HalfAt h) = done (codeByte (halfOf w h) p)
+operandAt w p (InHalf h) = done (codeByte (halfOf w h) p)
 operandAt w p (Pointer page r) = do
   b ← read (addressOf w page)
   done (codeByte b p)

@@ -1,5 +1,4 @@
 -- `lh5801::lh5801_run` meets its contract: the run call of the record that the words give, and its answer's words.
--- Assumes nothing.
 use mathlib.Core.Path.{ap, _∙_}
 use native.Mathlib.Omega.{arith}
 use Rattle.lh5801.specs.Words.{takenOf, wordsOf}

@@ -1,5 +1,4 @@
 -- `lh5801::limited` meets its contract: its test is the definition's.
--- Assumes nothing.
 use borrow.Author.Tests.{lt-ltb, le-ltb}
 use Rattle.lh5801.proofs.limited.Statement.{statement}
 use Rattle.lh5801.proofs.limited.Tie as tie

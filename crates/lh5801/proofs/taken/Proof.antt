@@ -1,5 +1,4 @@
 -- `lh5801::taken` meets its contract: each word is taken as `takenOf` says.
--- Assumes nothing.
 use Rattle.lh5801.specs.Words.{takenOf}
 use borrow.Author.Needs.{needs}
 use Rattle.lh5801.proofs.taken.Statement.{statement}

@@ -1,5 +1,4 @@
 -- `lh5801::words_of` meets its contract: the record's numbers, and the answer's four after them.
--- Assumes nothing.
 use native.Mathlib.Omega.{arith}
 use borrow.Author.Needs.{needs}
 use Rattle.lh5801.proofs.Words.{words-within}
@@ -8,8 +7,8 @@ use Rattle.lh5801.proofs.words_of.Tie as tie
 
 returns : tie.Need-returns
 returns c = (
-  rw (c .before .before .before .before .before .numbers-of .ensures .0, c .before .before .before .byte .ensures .0, c .before .before .before .before .number .ensures, c .before .byte3 .ensures .0, c .before .before .byte2 .ensures),
-  words-within (c .before .before .before .before .before .before .before .args .r) (c .before .before .before .before .before .numbers-of .ensures .1) (omega (arith, c .before .byte3 .ensures .0, c .before .byte3 .ensures .1, c .before .before .byte2 .ensures)) (omega arith) (omega arith),
+  rw (c .before .before .before .before .before .from-record .ensures .0, c .before .before .before .byte-number .ensures .0, c .before .before .before .before .number .ensures, c .before .byte-number2 .ensures .0, c .before .before .byte .ensures),
+  words-within (c .before .before .before .before .before .before .before .args .r) (c .before .before .before .before .before .from-record .ensures .1) (omega (arith, c .before .byte-number2 .ensures .0, c .before .byte-number2 .ensures .1, c .before .before .byte .ensures)) (omega arith) (omega arith),
 )
 
 pub words-of-spec : {M : Type 1} → statement M

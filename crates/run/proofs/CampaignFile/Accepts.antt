@@ -1,5 +1,4 @@
--- A file that is accepted is the written form of what was read, and that is within its bounds.
--- Assumes nothing.
+-- A file that is accepted is the file of what was read, and that is within its bounds.
 use Prim.Native.Nat.{ℕ, zero, suc, _+_, _*_, _/_, _%_, _<_, _≤_}
 use mathlib.Core.Path.{_≡_, refl, ap, ap₂, sym, subst, subst₂, _∙_}
 use mathlib.Core.Bool.{Bool, true, false, cond, not, _||_}
@@ -11,10 +10,10 @@ use lib.Dec.{leb, eqb}
 use borrow.Author.Tests.{leb-true, leb-false, eqb-false, lt-ltb, le-ltb, ne-eqb}
 use Rattle.run.specs.RecordNumbers.{recordOf, AllWithin}
 use Rattle.run.specs.CampaignFile.{Groups, ends, over, whole, group, groups, groupsOf, Field, read, refused, shortestOf, numberOf, numberBytes, numbersBytes, pageBytes, Bytes}
-use Rattle.run.specs.CampaignFile.{greatestValues, numbersOf, longest, askedOf, campaignOf, Contents, fieldsOf, written, Within, contentsOf, contentsField, contents}
-use Rattle.run.specs.declared.campaign_file.Page.{Page}
+use Rattle.run.specs.CampaignFile.{greatestValues, numbersOf, longest, askedOf, campaignOf, Contents, fieldsOf, fileOf, Within, contentsOf, contentsField, contents}
+use Rattle.run.specs.declared.campaign_file.PagePlace.{PagePlace}
 use Rattle.run.specs.declared.campaign_file.Parsed.{Parsed}
-use Rattle.run.proofs.RecordNumbers.{within-at, flags-back, entries-are}
+use Rattle.run.proofs.RecordNumbers.{within-at, flags-back, elements-are}
 use Rattle.run.proofs.CampaignFile.Number.{never, read-same, number-read, number-within, groups-within}
 use Rattle.run.proofs.CampaignFile.InTurn.{first-read, none-read, NumbersWithin, numbers-within, PageIs, file-parts}
 
@@ -134,14 +133,14 @@ numbers-took (greatest ∷ greatests) bytes at values next bs e =
     (took-then (number-took greatest bytes at (f .value) (f .place) bs (f .was)) (numbers-took greatests bytes (f .place) (f .others) next bs (f .then)))
 
 -- a page: its bytes are those of the file at its place
-abbrev bytesAt : List ℕ → Page → List ℕ
+abbrev bytesAt : List ℕ → PagePlace → List ℕ
 bytesAt bytes page = take (page .len) (drop (page .at) bytes)
 
-record PageTook (bytes : List ℕ) (at : ℕ) (page : Page) (next : ℕ) : Type 0 where
+record PageTook (bytes : List ℕ) (at : ℕ) (page : PagePlace) (next : ℕ) : Type 0 where
   took : Took bytes at (pageBytes (bytesAt bytes page)) next
   size : length (bytesAt bytes page) ≤ longest
 
-page-took : (bytes : List ℕ) (at : ℕ) (page : Page) (next : ℕ) → Bytes bytes → PageIs bytes at page next → PageTook bytes at page next
+page-took : (bytes : List ℕ) (at : ℕ) (page : PagePlace) (next : ℕ) → Bytes bytes → PageIs bytes at page next → PageTook bytes at page next
 page-took bytes at page next bs p =
     let size : length (bytesAt bytes page) ≡ page .len = length-take-le (page .len) (drop (page .at) bytes) (rw length-drop (omega (arith, p .inside))) in
     let there : Took bytes (page .at) (bytesAt bytes page) next = record {
@@ -154,24 +153,25 @@ page-took bytes at page next bs p =
 
 -- ---- the whole file
 
-record Accepted (bytes : List ℕ) (c : Parsed) (next : ℕ) : Type 0 where
-  is : bytes ≡ written (contentsOf bytes c)
-  within : Within (contentsOf bytes c)
-  all : next ≡ length bytes
+-- a file that is accepted is the file of its contents, which are within their bounds
+pub record OnlyWritten (bytes : List ℕ) (c : Contents) (next : ℕ) : Type 0 where
+  pub is : bytes ≡ fileOf c
+  pub within : Within c
+  pub all : next ≡ length bytes
 
 -- the numbers that were read are those of the record and of what is asked
 fields-back : (values : List ℕ) → NumbersWithin greatestValues values → fieldsOf (recordOf values) (askedOf values) ≡ values
 unfolding recordOf
-fields-back values h = rw (flags-back values (within-at greatestValues values (h .within) 8 (omega arith))) (sym (entries-are 0 14 values (h .many)))
+fields-back values h = rw (flags-back values (within-at greatestValues values (h .within) 8 (omega arith))) (sym (elements-are 0 14 values (h .many)))
 
-accepted : (bytes : List ℕ) (c : Parsed) (next : ℕ) → Bytes bytes → campaignOf bytes 0 ≡ read c next → Accepted bytes c next
-unfolding written
-accepted bytes c next bs e =
+read-written : (bytes : List ℕ) (c : Parsed) (next : ℕ) → Bytes bytes → campaignOf bytes 0 ≡ read c next → OnlyWritten bytes (contentsOf bytes c) next
+unfolding fileOf
+read-written bytes c next bs e =
     let f = file-parts bytes c next e in
     let h = numbers-within greatestValues bytes 0 (f .values) (f .place0) (f .numbers) in
     let t0 = page-took bytes (f .place0) (f .page0) (f .place1) bs (f .first) in
     let t1 = page-took bytes (f .place1) (f .page1) next bs (f .second) in
-    subst (λ (x : Parsed). Accepted bytes x next) (f .parts-are)
+    subst (λ (x : Parsed). OnlyWritten bytes (contentsOf bytes x) next) (f .parts-are)
     (record {
       is =
           took-then (numbers-took greatestValues bytes 0 (f .values) (f .place0) bs (f .numbers)) (took-then (t0 .took) (t1 .took)) .there
@@ -181,19 +181,12 @@ accepted bytes c next bs e =
       all = omega (arith, f .all, f .second .inside, f .second .next-is);
     })
 
--- a file that is accepted is the written form of its contents, which are within their bounds
-pub record OnlyWritten (bytes : List ℕ) (c : Contents) (next : ℕ) : Type 0 where
-  pub is : bytes ≡ written c
-  pub within : Within c
-  pub all : next ≡ length bytes
-
 pub accepts-only-written : (bytes : List ℕ) (c : Contents) (next : ℕ) → Bytes bytes → contents bytes ≡ read c next → OnlyWritten bytes c next
 unfolding contents
 accepts-only-written bytes c next bs e = go (campaignOf bytes 0) refl e
   where
     go : (f : Field Parsed) → campaignOf bytes 0 ≡ f → contentsField bytes f ≡ read c next → OnlyWritten bytes c next
     go (read p n) is e =
-        let a = accepted bytes p n bs is in
         let same = read-same e in
-        subst₂ (λ (x : Contents) (m : ℕ). OnlyWritten bytes x m) (same .0) (same .1) (record { is = a .is; within = a .within; all = a .all })
+        subst₂ (λ (x : Contents) (m : ℕ). OnlyWritten bytes x m) (same .0) (same .1) (read-written bytes p n bs is)
     go (refused stop) is e = never stop e refl

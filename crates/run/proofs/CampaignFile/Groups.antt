@@ -1,5 +1,4 @@
 -- The groups of one number that the loop of `Cursor::number` has passed, and what the definition says of the rest at each way out.
--- Assumes nothing.
 use Prim.Native.Nat.{ℕ, zero, suc, _+_, _-_, _*_, _%_, _^_, _<_, _≤_}
 use mathlib.Core.Path.{_≡_, refl, ap, sym, _∙_}
 use mathlib.Core.Bool.{Bool, true, false, cond, not, _||_}

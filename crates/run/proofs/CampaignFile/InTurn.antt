@@ -1,6 +1,5 @@
 -- Fields read in turn: each is read from the place after the one before it, and the first that is turned down ends the reading. What the
 -- code's answers tell of it, and what a file that was read tells of its fields.
--- Assumes nothing.
 use Prim.Native.Nat.{ℕ, suc, _+_, _<_, _≤_}
 use mathlib.Core.Path.{_≡_, refl, ap, sym, subst, _∙_}
 use mathlib.Core.Bool.{Bool, true, false, cond}
@@ -12,10 +11,10 @@ use lib.Seq.{drop-cons, take-suc-set, take-all}
 use lib.Dec.{ltb}
 use borrow.Author.Tests.{ltb-false}
 use Rattle.run.specs.RecordNumbers.{AllWithin}
-use Rattle.run.specs.CampaignFile.{Field, Reader, read, refused, andThen, given, numberOf, greatestValues, numbersOf, longest, bytesOf, pageOf, partsOf, ended, campaignOf}
+use Rattle.run.specs.CampaignFile.{Field, Reader, read, refused, andThen, given, numberOf, greatestValues, numbersOf, longest, bytesOf, pageOf, parsedOf, ended, campaignOf}
 use Rattle.run.specs.declared.campaign_file.Refusal.{Refusal}
 use Rattle.run.specs.declared.campaign_file.Refusal.the-variants.{Ends, LeftOver}
-use Rattle.run.specs.declared.campaign_file.Page.{Page}
+use Rattle.run.specs.declared.campaign_file.PagePlace.{PagePlace}
 use Rattle.run.specs.declared.campaign_file.Parsed.{Parsed}
 use Rattle.run.proofs.CampaignFile.Number.{never, read-same, number-within}
 
@@ -29,9 +28,9 @@ pub was : {A X : Type 0} (field : X → Field A) {f : Field A} {x y : X} (e : f 
 was field e known = record { is = e ∙ ap field known }
 
 -- the refusal that is handed upward is the field's
-pub stopped : {A X : Type 0} (field : X → Field A) (stop : X → Refusal) {f : Field A} {x y : X} {r : Refusal} → f ≡ field x → x ≡ y → r ≡ stop x
+pub refusal-handed : {A X : Type 0} (field : X → Field A) (stop : X → Refusal) {f : Field A} {x y : X} {r : Refusal} → f ≡ field x → x ≡ y → r ≡ stop x
     → field y ≡ refused (stop y) → f ≡ refused r
-stopped field stop e is handed at = e ∙ ap field is ∙ at ∙ ap refused (sym (handed ∙ ap stop is))
+refusal-handed field stop e is handed at = e ∙ ap field is ∙ at ∙ ap refused (sym (handed ∙ ap stop is))
 
 -- ---- numbers in turn, as the loop of `Cursor::numbers` reads them
 
@@ -48,7 +47,7 @@ onto-more : (bytes before : List ℕ) (value : ℕ) (f : Field (List ℕ)) → o
 onto-more bytes before value (read values next) = ap (λ (l : List ℕ). read l next) (sym (append-assoc before (value ∷ []) values))
 onto-more bytes before value (refused stop) = refl
 
--- the first i values were read, which ends at a place
+-- the first i values were read, up to this place
 pub record ReadSo (greatests bytes : List ℕ) (begin : ℕ) (values : List ℕ) (i at : ℕ) : Type 0 where
   pub so : numbersOf greatests bytes begin ≡ onto (take i values) (numbersOf (drop i greatests) bytes at)
 
@@ -124,12 +123,12 @@ numbers-within (greatest ∷ greatests) bytes at values next e =
     (record { within = (number-within greatest bytes at (f .value) (f .place) (f .was) .0, rest .within); many = ap suc (rest .many) })
 
 -- a page that was read
-pub record PageIs (bytes : List ℕ) (at : ℕ) (page : Page) (next : ℕ) : Type 0 where
+pub record PageIs (bytes : List ℕ) (at : ℕ) (page : PagePlace) (next : ℕ) : Type 0 where
   pub was : numberOf longest bytes at ≡ read (page .len) (page .at)
   pub next-is : next ≡ page .at + page .len
   pub inside : page .at + page .len ≤ length bytes
 
-pub page-read : (bytes : List ℕ) (at : ℕ) (page : Page) (next : ℕ) → pageOf bytes at ≡ read page next → PageIs bytes at page next
+pub page-read : (bytes : List ℕ) (at : ℕ) (page : PagePlace) (next : ℕ) → pageOf bytes at ≡ read page next → PageIs bytes at page next
 unfolding pageOf bytesOf
 page-read bytes at page next e = go (then-read bytes (numberOf longest bytes at) bytesOf e)
   where
@@ -148,13 +147,13 @@ page-read bytes at page next e = go (then-read bytes (numberOf longest bytes at)
 pub record FileParts (bytes : List ℕ) (c : Parsed) (next : ℕ) : Type 0 where
   pub values : List ℕ
   pub place0 : ℕ
-  pub page0 : Page
+  pub page0 : PagePlace
   pub place1 : ℕ
-  pub page1 : Page
+  pub page1 : PagePlace
   pub numbers : numbersOf greatestValues bytes 0 ≡ read values place0
   pub first : PageIs bytes place0 page0 place1
   pub second : PageIs bytes place1 page1 next
-  pub parts-are : partsOf values page0 page1 ≡ c
+  pub parts-are : parsedOf values page0 page1 ≡ c
   pub all : length bytes ≤ next
 
 ended-read : (bytes : List ℕ) (at : ℕ) (parts c : Parsed) (next : ℕ) → ended parts bytes at ≡ read c next → (parts ≡ c) × (at ≡ next) × (length bytes ≤ at)
@@ -171,7 +170,7 @@ file-parts bytes c next e =
     let v = then-read bytes (numbersOf greatestValues bytes 0) _ e in
     let p = then-read bytes (pageOf bytes (v .place)) _ (v .then) in
     let q = then-read bytes (pageOf bytes (p .place)) _ (p .then) in
-    let l = ended-read bytes (q .place) (partsOf (v .value) (p .value) (q .value)) c next (q .then) in
+    let l = ended-read bytes (q .place) (parsedOf (v .value) (p .value) (q .value)) c next (q .then) in
     record {
       values = v .value;
       place0 = v .place;

@@ -1,5 +1,4 @@
--- What a number that was read tells: its groups, its bounds and its next place. What one that is turned down tells.
--- Assumes nothing.
+-- What a number that was read says: its groups, its bounds and its next place.
 use Prim.Native.Nat.{ℕ, zero, suc, _+_, _-_, _<_, _≤_}
 use mathlib.Core.Path.{_≡_, refl, ap, sym, _∙_}
 use mathlib.Core.Bool.{Bool, true, false, cond, _&&_}

@@ -1,5 +1,4 @@
 -- A campaign file that was written from contents within their bounds is read back as these contents.
--- Assumes nothing.
 use Prim.Native.Nat.{ℕ, zero, suc, _+_, _-_, _*_, _/_, _%_, _^_, _<_, _≤_}
 use mathlib.Core.Path.{_≡_, refl, ap, _∙_}
 use mathlib.Core.Bool.{Bool, true, false, cond, _||_}
@@ -14,8 +13,8 @@ use borrow.Author.Needs.{needs}
 use borrow.Author.Tests.{lt-ltb, le-ltb, le-leb, lt-leb, ne-eqb}
 use Rattle.run.specs.RecordNumbers.{AllWithin}
 use Rattle.run.specs.CampaignFile.{whole, groups, groupsOf, read, Reader, _>>=_, given, shortestOf, numberOf, numberBytes, numbersBytes, pageBytes}
-use Rattle.run.specs.CampaignFile.{greatestValues, numbersOf, longest, bytesOf, pageOf, partsOf, ended, campaignOf, Contents, fieldsOf, written, Within, contents}
-use Rattle.run.specs.declared.campaign_file.Page.{Page}
+use Rattle.run.specs.CampaignFile.{greatestValues, numbersOf, longest, bytesOf, pageOf, parsedOf, ended, campaignOf, Contents, fieldsOf, fileOf, Within, contents}
+use Rattle.run.specs.declared.campaign_file.PagePlace.{PagePlace}
 use Rattle.run.specs.declared.campaign_file.Parsed.{Parsed}
 use Rattle.run.proofs.RecordNumbers.{record-in}
 use Rattle.run.proofs.CampaignFile.Groups.{lt-or-ge}
@@ -146,7 +145,7 @@ numbers-back (greatest ∷ greatests) (value ∷ values) at top h many =
     })
 
 -- where a page's bytes begin, after its length
-abbrev placeOf : ℕ → List ℕ → Page
+abbrev placeOf : ℕ → List ℕ → PagePlace
 placeOf at page = record { at = at + length (numberBytes (length page)); len = length page }
 
 bytes-back : (at : ℕ) (page : List ℕ) → ReadsBack (bytesOf (length page)) at page (record { at = at; len = length page })
@@ -182,18 +181,18 @@ module _ (c : Contents) where
   start1 = start0 + length (pageBytes (c .page0))
 
   abbrev pub parsedBack : Parsed
-  parsedBack = partsOf values (placeOf start0 (c .page0)) (placeOf start1 (c .page1))
+  parsedBack = parsedOf values (placeOf start0 (c .page0)) (placeOf start1 (c .page1))
 
-  in-parts : written c ≡ numbersBytes values ++ (pageBytes (c .page0) ++ (pageBytes (c .page1) ++ []))
-  unfolding written
+  in-parts : fileOf c ≡ numbersBytes values ++ (pageBytes (c .page0) ++ (pageBytes (c .page1) ++ []))
+  unfolding fileOf
   in-parts = rw (append-nil (pageBytes (c .page1)))
 
-  first-page : written c ≡ (numbersBytes values ++ numberBytes (length (c .page0))) ++ (c .page0 ++ pageBytes (c .page1))
-  unfolding written
+  first-page : fileOf c ≡ (numbersBytes values ++ numberBytes (length (c .page0))) ++ (c .page0 ++ pageBytes (c .page1))
+  unfolding fileOf
   first-page = simp (append-assoc, append-nil)
 
-  second-page : written c ≡ (numbersBytes values ++ (pageBytes (c .page0) ++ numberBytes (length (c .page1)))) ++ (c .page1 ++ [])
-  unfolding written
+  second-page : fileOf c ≡ (numbersBytes values ++ (pageBytes (c .page0) ++ numberBytes (length (c .page1)))) ++ (c .page1 ++ [])
+  unfolding fileOf
   second-page = simp (append-assoc, append-nil)
 
   campaign-back : Within c → ReadsBackLast campaignOf 0 (numbersBytes values ++ (pageBytes (c .page0) ++ (pageBytes (c .page1) ++ []))) parsedBack
@@ -204,19 +203,19 @@ module _ (c : Contents) where
       (then-back-last _ (page-back start1 (c .page1) (h .page1))
       (ended-back parsedBack _)))
 
-  page0-back : take (length (c .page0)) (drop (placeOf start0 (c .page0) .at) (written c)) ≡ c .page0
+  page0-back : take (length (c .page0)) (drop (placeOf start0 (c .page0) .at) (fileOf c)) ≡ c .page0
   page0-back =
-      page-there (numbersBytes values ++ numberBytes (length (c .page0))) (c .page0) (pageBytes (c .page1)) (written c) (placeOf start0 (c .page0) .at)
+      page-there (numbersBytes values ++ numberBytes (length (c .page0))) (c .page0) (pageBytes (c .page1)) (fileOf c) (placeOf start0 (c .page0) .at)
       first-page (simp length-append (omega arith))
 
-  page1-back : take (length (c .page1)) (drop (placeOf start1 (c .page1) .at) (written c)) ≡ c .page1
+  page1-back : take (length (c .page1)) (drop (placeOf start1 (c .page1) .at) (fileOf c)) ≡ c .page1
   page1-back =
-      page-there (numbersBytes values ++ (pageBytes (c .page0) ++ numberBytes (length (c .page1)))) (c .page1) [] (written c)
+      page-there (numbersBytes values ++ (pageBytes (c .page0) ++ numberBytes (length (c .page1)))) (c .page1) [] (fileOf c)
       (placeOf start1 (c .page1) .at) second-page (simp length-append (omega arith))
 
-  -- "writing a campaign and reading it back is the identity"
-  pub read-back : Within c → contents (written c) ≡ read c (length (written c))
+  -- writing a campaign and reading it back is the identity
+  pub read-back : Within c → contents (fileOf c) ≡ read c (length (fileOf c))
   unfolding contents
   read-back h =
-      let whole-file : campaignOf (written c) 0 ≡ read parsedBack (0 + length (written c)) = rw in-parts (campaign-back h .back [] refl) in
-      rw (whole-file, zero-add (length (written c)), record-in (c .cpu) (c .asked .keyboard ∷ c .asked .limit ∷ []), page0-back, page1-back)
+      let whole-file : campaignOf (fileOf c) 0 ≡ read parsedBack (0 + length (fileOf c)) = rw in-parts (campaign-back h .back [] refl) in
+      rw (whole-file, zero-add (length (fileOf c)), record-in (c .cpu) (c .asked .keyboard ∷ c .asked .limit ∷ []), page0-back, page1-back)

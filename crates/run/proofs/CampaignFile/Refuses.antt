@@ -1,5 +1,4 @@
--- A file is turned down only for a reason of `Stopped`, at the offset that is told.
--- Assumes nothing.
+-- A file is turned down exactly for the reasons of `TurnedDown`, at the offset that the refusal names.
 use Prim.Native.Nat.{ℕ, zero, suc, _+_, _-_, _<_, _≤_}
 use mathlib.Core.Path.{_≡_, refl, ap, sym, subst, _∙_}
 use mathlib.Core.Bool.{Bool, true, false, cond, not, _&&_, _||_}
@@ -11,11 +10,11 @@ use lib.Seq.{getD-drop}
 use lib.Dec.{leb, ltb, eqb}
 use borrow.Author.Tests.{ltb-true, ltb-false, leb-true, leb-false, eqb-true, eqb-false, lt-ltb, le-ltb, le-leb, lt-leb, ne-eqb}
 use Rattle.run.specs.CampaignFile.{Groups, ends, over, whole, group, groups, Field, read, refused, Reader, andThen, _>>=_, given, shortestOf, numberFrom, numberOf}
-use Rattle.run.specs.CampaignFile.{greatestValues, numbersOf, longest, bytesOf, pageOf, partsOf, ended, campaignOf}
-use Rattle.run.specs.CampaignRefusals.{Kind, number, page, fields, Reached, start, after-number, after-page, EndsInside, OverTen, UnfitAt, over-ten, not-shortest, above, Stopped, ends-in-number, ends-in-page, unfit, left-over}
+use Rattle.run.specs.CampaignFile.{greatestValues, numbersOf, longest, bytesOf, pageOf, parsedOf, ended, campaignOf}
+use Rattle.run.specs.CampaignRefusals.{FieldKind, number, page, fields, ReadUpTo, start, after-number, after-page, EndsInside, OverTen, UnfitAt, over-ten, not-shortest, above, TurnedDown, ends-in-number, ends-in-page, unfit, left-over}
 use Rattle.run.specs.declared.campaign_file.Refusal.{Refusal}
 use Rattle.run.specs.declared.campaign_file.Refusal.the-variants.{Ends, Unfit, LeftOver}
-use Rattle.run.specs.declared.campaign_file.Page.{Page}
+use Rattle.run.specs.declared.campaign_file.PagePlace.{PagePlace}
 use Rattle.run.specs.declared.campaign_file.Parsed.{Parsed}
 use Rattle.run.proofs.CampaignFile.Number.{never, groups-within}
 use Rattle.run.proofs.CampaignFile.Groups.{lt-or-ge}
@@ -159,12 +158,12 @@ number-unfit greatest bytes at (above {value = value} {count = count} {last = la
 -- ---- one field after another
 
 -- the fields that are left, from a place on; the last number read
-walk : List ℕ → List Kind → ℕ → ℕ → Field ℕ
+walk : List ℕ → List FieldKind → ℕ → ℕ → Field ℕ
 walk bytes [] last at = cond (ltb at (length bytes)) (refused (LeftOver at)) (read last at)
 walk bytes (number greatest ∷ left) last at = andThen bytes (numberOf greatest bytes at) (λ value bytes next. walk bytes left value next)
 walk bytes (page ∷ left) len at = cond (ltb (length bytes) (at + len)) (refused (Ends at)) (walk bytes left len (at + len))
 
-walk-reached : (bytes : List ℕ) (left : List Kind) (at last : ℕ) → Reached bytes left at last → walk bytes fields 0 0 ≡ walk bytes left last at
+walk-reached : (bytes : List ℕ) (left : List FieldKind) (at last : ℕ) → ReadUpTo bytes left at last → walk bytes fields 0 0 ≡ walk bytes left last at
 unfolding walk
 walk-reached bytes left at last start = refl
 walk-reached bytes left at last (after-number {greatest = greatest} {at = place} {last = before} r e) =
@@ -172,7 +171,7 @@ walk-reached bytes left at last (after-number {greatest = greatest} {at = place}
 walk-reached bytes left at last (after-page {at = place} {len = len} r h) =
     walk-reached bytes (page ∷ left) place len r ∙ rw (le-ltb (length bytes) (place + len) h)
 
-stopped-walk : (bytes : List ℕ) (stop : Refusal) → Stopped bytes stop → walk bytes fields 0 0 ≡ refused stop
+stopped-walk : (bytes : List ℕ) (stop : Refusal) → TurnedDown bytes stop → walk bytes fields 0 0 ≡ refused stop
 unfolding walk
 stopped-walk bytes stop (ends-in-number {at = at} {last = last} {greatest = greatest} {left = left} r h) =
     walk-reached bytes (number greatest ∷ left) at last r ∙ rw (number-ended greatest bytes at h)
@@ -182,28 +181,28 @@ stopped-walk bytes stop (unfit {at = at} {last = last} {greatest = greatest} {le
     walk-reached bytes (number greatest ∷ left) at last r ∙ rw (number-unfit greatest bytes at h)
 stopped-walk bytes stop (left-over {at = at} {last = last} r h) = walk-reached bytes [] at last r ∙ rw (lt-ltb at (length bytes) h)
 
-walk-stopped : (bytes : List ℕ) (left : List Kind) (at last : ℕ) (stop : Refusal) → Reached bytes left at last → walk bytes left last at ≡ refused stop → Stopped bytes stop
+walk-stopped : (bytes : List ℕ) (left : List FieldKind) (at last : ℕ) (stop : Refusal) → ReadUpTo bytes left at last → walk bytes left last at ≡ refused stop → TurnedDown bytes stop
 unfolding walk
 walk-stopped bytes [] at last stop r e = go (ltb at (length bytes)) refl e
   where
-    go : (t : Bool) → ltb at (length bytes) ≡ t → cond t (refused (LeftOver at)) (read last at) ≡ refused stop → Stopped bytes stop
-    go true more e = subst (Stopped bytes) (refused-same e) (left-over r (ltb-true at (length bytes) more))
+    go : (t : Bool) → ltb at (length bytes) ≡ t → cond t (refused (LeftOver at)) (read last at) ≡ refused stop → TurnedDown bytes stop
+    go true more e = subst (TurnedDown bytes) (refused-same e) (left-over r (ltb-true at (length bytes) more))
     go false none e = never stop refl e
 walk-stopped bytes (number greatest ∷ left) at last stop r e = go (numberOf greatest bytes at) refl (λ value next. walk-stopped bytes left next value stop) e
   where
-    why : {given : Refusal} → NumberRefused greatest bytes at given → Stopped bytes given
+    why : {given : Refusal} → NumberRefused greatest bytes at given → TurnedDown bytes given
     why (for-end h) = ends-in-number r h
     why (for-unfit h) = unfit r h
 
-    go : (f : Field ℕ) → numberOf greatest bytes at ≡ f → ((value next : ℕ) → Reached bytes left next value → walk bytes left value next ≡ refused stop → Stopped bytes stop)
-        → andThen bytes f (λ value bytes next. walk bytes left value next) ≡ refused stop → Stopped bytes stop
+    go : (f : Field ℕ) → numberOf greatest bytes at ≡ f → ((value next : ℕ) → ReadUpTo bytes left next value → walk bytes left value next ≡ refused stop → TurnedDown bytes stop)
+        → andThen bytes f (λ value bytes next. walk bytes left value next) ≡ refused stop → TurnedDown bytes stop
     go (read value next) is rest e = rest value next (after-number r is) e
-    go (refused given) is rest e = subst (Stopped bytes) (refused-same e) (why (number-refused greatest bytes at given is))
+    go (refused given) is rest e = subst (TurnedDown bytes) (refused-same e) (why (number-refused greatest bytes at given is))
 walk-stopped bytes (page ∷ left) at len stop r e = go (ltb (length bytes) (at + len)) refl (walk-stopped bytes left (at + len) len stop) e
   where
-    go : (t : Bool) → ltb (length bytes) (at + len) ≡ t → (Reached bytes left (at + len) len → walk bytes left len (at + len) ≡ refused stop → Stopped bytes stop)
-        → cond t (refused (Ends at)) (walk bytes left len (at + len)) ≡ refused stop → Stopped bytes stop
-    go true short rest e = subst (Stopped bytes) (refused-same e) (ends-in-page r (ltb-true (length bytes) (at + len) short))
+    go : (t : Bool) → ltb (length bytes) (at + len) ≡ t → (ReadUpTo bytes left (at + len) len → walk bytes left len (at + len) ≡ refused stop → TurnedDown bytes stop)
+        → cond t (refused (Ends at)) (walk bytes left len (at + len)) ≡ refused stop → TurnedDown bytes stop
+    go true short rest e = subst (TurnedDown bytes) (refused-same e) (ends-in-page r (ltb-true (length bytes) (at + len) short))
     go false there rest e = rest (after-page r (ltb-false (length bytes) (at + len) there)) e
 
 -- ---- the definition ends where the walk does
@@ -217,7 +216,7 @@ end-refused : {A : Type 0} (f : Field A) {stop : Refusal} → endOf f ≡ refuse
 end-refused (read a next) {stop} e = never stop refl e
 end-refused (refused why) e = ap refused (refused-same e)
 
-numbers-walk : (greatests bytes : List ℕ) (greatest : ℕ) (left : List Kind) (last at : ℕ)
+numbers-walk : (greatests bytes : List ℕ) (greatest : ℕ) (left : List FieldKind) (last at : ℕ)
     → walk bytes (map number greatests ++ (number greatest ∷ left)) last at
     ≡ andThen bytes (numbersOf greatests bytes at) (λ values bytes next. walk bytes (number greatest ∷ left) 0 next)
 unfolding walk numbersOf
@@ -238,8 +237,8 @@ numbers-walk (first ∷ greatests) bytes greatest left last at = go (numberOf fi
     go (read value next) rest = rest value next ∙ through value (numbersOf greatests bytes next)
     go (refused stop) rest = refl
 
-page-walk : {B : Type 0} (bytes : List ℕ) (left : List Kind) (last at : ℕ) (rest : Page → Reader B)
-    → ((p : Page) (len next : ℕ) → endOf (rest p bytes next) ≡ endOf (walk bytes left len next))
+page-walk : {B : Type 0} (bytes : List ℕ) (left : List FieldKind) (last at : ℕ) (rest : PagePlace → Reader B)
+    → ((p : PagePlace) (len next : ℕ) → endOf (rest p bytes next) ≡ endOf (walk bytes left len next))
     → endOf (andThen bytes (pageOf bytes at) rest) ≡ endOf (walk bytes (number longest ∷ page ∷ left) last at)
 unfolding walk pageOf bytesOf
 page-walk {B} bytes left last at rest same = go (numberOf longest bytes at)
@@ -268,16 +267,16 @@ campaign-walk bytes =
     go (numbersOf greatestValues bytes 0) ∙ ap endOf (sym (numbers-walk greatestValues bytes longest (page ∷ number longest ∷ page ∷ []) 0 0))
   where
     go : (f : Field (List ℕ))
-        → endOf (andThen bytes f (λ values. pageOf >>= λ page0. pageOf >>= λ page1. ended (partsOf values page0 page1)))
+        → endOf (andThen bytes f (λ values. pageOf >>= λ page0. pageOf >>= λ page1. ended (parsedOf values page0 page1)))
         ≡ endOf (andThen bytes f (λ values bytes next. walk bytes (number longest ∷ page ∷ number longest ∷ page ∷ []) 0 next))
     go (read values next) =
-        page-walk bytes (number longest ∷ page ∷ []) 0 next _ (λ page0 len place. page-walk bytes [] len place _ (λ page1. ended-walk bytes (partsOf values page0 page1)))
+        page-walk bytes (number longest ∷ page ∷ []) 0 next _ (λ page0 len place. page-walk bytes [] len place _ (λ page1. ended-walk bytes (parsedOf values page0 page1)))
     go (refused stop) = refl
 
--- a file that is turned down is turned down for a reason of `Stopped`
-pub refused-for : (bytes : List ℕ) (stop : Refusal) → campaignOf bytes 0 ≡ refused stop → Stopped bytes stop
+-- a file that is turned down is turned down for a reason of `TurnedDown`
+pub refused-for : (bytes : List ℕ) (stop : Refusal) → campaignOf bytes 0 ≡ refused stop → TurnedDown bytes stop
 refused-for bytes stop e = walk-stopped bytes fields 0 0 stop start (end-refused (walk bytes fields 0 0) (sym (campaign-walk bytes) ∙ ap endOf e))
 
--- for each reason of `Stopped` the file is turned down with that refusal
-pub refused-so : (bytes : List ℕ) (stop : Refusal) → Stopped bytes stop → campaignOf bytes 0 ≡ refused stop
+-- for each reason of `TurnedDown` the file is turned down with that refusal
+pub refused-so : (bytes : List ℕ) (stop : Refusal) → TurnedDown bytes stop → campaignOf bytes 0 ≡ refused stop
 refused-so bytes stop s = end-refused (campaignOf bytes 0) (campaign-walk bytes ∙ ap endOf (stopped-walk bytes stop s))

@@ -1,4 +1,4 @@
--- How the code is built, and not to be believed: what a stretch of a call's steps comes to, which the code takes as one piece.
+-- How the code is built, and need not be believed (proofs/Loop.antt ties it): what a stretch of a call's steps comes to, which the code takes as one piece.
 use Prim.Native.Nat.{ℕ, _+_, _<_, _≤_}
 use mathlib.Core.List.{List}
 use mathlib.Core.Path.{_≡_}

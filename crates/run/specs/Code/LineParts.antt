@@ -1,4 +1,4 @@
--- How the code is built, and not to be believed: the printed line in parts, each written from a place of the buffer on.
+-- How the code is built, and need not be believed (proofs/PrintedLine.antt ties it): the printed line in parts, each written from a place of the buffer on.
 use Prim.Native.Nat.{ℕ, _+_}
 use mathlib.Core.Path.{_≡_}
 use mathlib.Core.List.{List, [], _∷_, _++_}

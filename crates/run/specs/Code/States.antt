@@ -1,4 +1,4 @@
--- How the code is built, and not to be believed: the answer is put together at its end, and its states are counted by the ticks.
+-- How the code is built, and need not be believed (proofs/Loop.antt ties it): the answer is put together at its end, and its states are counted by the ticks.
 use Prim.Native.Nat.{ℕ, _+_, _-_, _%_, _^_}
 use Rattle.arithmetic.specs.declared.record.Lh5801.{Lh5801}
 use Rattle.run.specs.declared.End.{End}

@@ -1,5 +1,4 @@
 -- `run::campaign_file::checked` meets its contract: the two tests are those of `checkedOf`.
--- Assumes nothing.
 use borrow.Author.Tests.{le-leb, lt-leb}
 use Rattle.run.proofs.campaign_file.checked.Statement.{statement}
 use Rattle.run.proofs.campaign_file.checked.Tie as tie

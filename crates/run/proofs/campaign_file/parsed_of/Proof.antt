@@ -1,5 +1,4 @@
 -- `run::campaign_file::parsed_of` meets its contract: the greatest values are within the widths.
--- Assumes nothing.
 use Prim.Native.Nat.{_≤_}
 use native.Mathlib.Omega.{arith}
 use lib.ListN.{length, take}

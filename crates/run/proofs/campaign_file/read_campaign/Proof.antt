@@ -1,11 +1,10 @@
 -- `run::campaign_file::read_campaign` meets its contract: its fields are read in turn.
--- Assumes nothing.
 use mathlib.Core.Path.{refl}
 use borrow.Author.Needs.{needs}
 use borrow.Author.Tests.{lt-ltb, le-ltb}
-use Rattle.run.specs.CampaignFile.{greatestValues, ended, campaignOf, campaignAnswer}
-use Rattle.run.specs.Code.FileAnswers.{numbersField, numbersStop, pageField, pageStop}
-use Rattle.run.proofs.CampaignFile.InTurn.{Was, was, stopped, numbers-within}
+use Rattle.run.specs.CampaignFile.{greatestValues, ended, campaignOf}
+use Rattle.run.specs.Code.FileAnswers.{numbersField, numbersStop, pageField, pageStop, campaignAnswer}
+use Rattle.run.proofs.CampaignFile.InTurn.{Was, was, refusal-handed, numbers-within}
 use Rattle.run.proofs.campaign_file.read_campaign.Statement.{statement}
 use Rattle.run.proofs.campaign_file.read_campaign.Tie as tie
 
@@ -24,11 +23,11 @@ read-campaign-spec =
     tie.close
     (tie.spec
     (λ c. search needs) (λ c κs. search needs) (λ c. search needs) (λ c. search needs) (λ c κs. search needs)
-    (λ c. rw (stopped (numbersField _) numbersStop (c .before .before .before .before .numbers .ensures) (c .before .enum-told .given .1) (c .stop .ensures) refl))
+    (λ c. rw (refusal-handed (numbersField _) numbersStop (c .before .before .before .before .numbers .ensures) (c .before .enum-told .given .1) (c .stop .ensures) refl))
     (λ c κs. search needs) (λ c. search needs) (λ c. search needs) (λ c κs. search needs)
-    (λ c. rw (values-read (c .before .before .before .before) .is, stopped pageField pageStop (c .before .before .before .page .ensures) (c .before .enum-told2 .given .1) (c .stop2 .ensures) refl))
+    (λ c. rw (values-read (c .before .before .before .before) .is, refusal-handed pageField pageStop (c .before .before .before .page .ensures) (c .before .enum-told2 .given .1) (c .stop2 .ensures) refl))
     (λ c κs. search needs) (λ c. search needs) (λ c. search needs) (λ c κs. search needs)
-    (λ c. rw (values-read (c .before .before .before .before .before .before .before .before) .is, page0-read (c .before .before .before .before) .is, stopped pageField pageStop (c .before .before .before .page2 .ensures) (c .before .enum-told3 .given .1) (c .stop3 .ensures) refl))
+    (λ c. rw (values-read (c .before .before .before .before .before .before .before .before) .is, page0-read (c .before .before .before .before) .is, refusal-handed pageField pageStop (c .before .before .before .page2 .ensures) (c .before .enum-told3 .given .1) (c .stop3 .ensures) refl))
     (λ c. rw (values-read (c .before .before .before .before .before .before .before .before .before) .is, page0-read (c .before .before .before .before .before) .is, page1-read (c .before) .is, lt-ltb _ _ (c .if1 .taken)))
     (λ c κs. numbers-within greatestValues _ _ _ _ (values-read (c .before .before .before .before .before .before .before .before .before .before) .is) .within)
     (λ c. rw (values-read (c .before .before .before .before .before .before .before .before .before .before .before) .is, page0-read (c .before .before .before .before .before .before .before) .is, page1-read (c .before .before .before) .is, le-ltb _ _ (c .before .before .if1 .left), c .parsed-of .ensures)))

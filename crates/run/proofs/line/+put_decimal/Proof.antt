@@ -1,5 +1,4 @@
 -- The proof of the cycle of calls {put_decimal}. The measure is the number. Its last digit follows those of its tenth part.
--- Assumes nothing.
 use mathlib.Core.Path.{_∙_}
 use native.Mathlib.Omega.{arith}
 use Rattle.run.proofs.PrintedLine.{put-then, put-length, decimal-one, decimal-more, length-one, length-more}

@@ -1,5 +1,4 @@
 -- The proof of the cycle of calls {put_hex}. The measure is the number of digits. The last digit follows the others.
--- Assumes nothing.
 use mathlib.Core.Path.{_∙_}
 use native.Mathlib.Omega.{arith}
 use denote.Ref.{now}

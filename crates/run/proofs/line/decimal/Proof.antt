@@ -1,5 +1,4 @@
 -- `run::line::decimal` meets its contract: the digits, then one byte.
--- Assumes nothing.
 use native.Mathlib.Omega.{arith}
 use Rattle.run.proofs.PrintedLine.{put-then, put-length, length-decimal}
 use borrow.Author.Needs.{needs}

@@ -1,5 +1,4 @@
 -- `run::line::hex` meets its contract: the digits, then a space.
--- Assumes nothing.
 use native.Mathlib.Omega.{arith}
 use Rattle.run.proofs.PrintedLine.{put-then, put-length, length-hex}
 use borrow.Author.Needs.{needs}

@@ -1,5 +1,4 @@
 -- `run::line::hex_digit` meets its contract.
--- Assumes nothing.
 use borrow.Author.Needs.{needs}
 use borrow.Author.Tests.{lt-ltb, le-ltb}
 use Rattle.run.proofs.line.hex_digit.Statement.{statement}

@@ -1,5 +1,4 @@
 -- `run::line::put_counts` meets its contract: three fields, one after another.
--- Assumes nothing.
 use mathlib.Core.List.{append-assoc}
 use native.Mathlib.Omega.{arith}
 use Rattle.run.specs.Line.{space}

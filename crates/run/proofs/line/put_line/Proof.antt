@@ -1,5 +1,4 @@
 -- `run::line::put_line` meets its contract: three parts, one after another, which the buffer holds.
--- Assumes nothing.
 use mathlib.Core.List.{append-assoc}
 use native.Mathlib.Omega.{arith}
 use Rattle.run.specs.Line.{lineOf}

@@ -1,5 +1,4 @@
 -- `run::line::put_registers` meets its contract: nine fields, one after another.
--- Assumes nothing.
 use lib.ListN.{drop, length-append}
 use native.Mathlib.Omega.{arith}
 use Rattle.run.proofs.PrintedLine.{Then, then, put-length, put-fields, length-hex}

@@ -1,5 +1,4 @@
 -- `run::record_numbers::flags_of` meets its contract: each bit is at most 1, so the sum fits.
--- Assumes nothing.
 use native.Mathlib.Omega.{arith}
 use Rattle.run.specs.RecordNumbers.{flagsOf}
 use borrow.Author.Needs.{needs}

@@ -1,5 +1,4 @@
 -- `run::record_numbers::record_of` meets its contract: each number is there and within its field's width.
--- Assumes nothing.
 use mathlib.Core.Path.{refl}
 use native.Mathlib.Omega.{arith}
 use lib.ListN.{take}

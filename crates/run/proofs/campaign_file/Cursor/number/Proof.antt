@@ -1,6 +1,5 @@
 -- `run::campaign_file::Cursor::number` meets its contract. The loop's invariant: the groups passed, with their value and the next one's weight,
 -- stand in front of those that the definition finds from here on. The measure is what is left of nine groups.
--- Assumes nothing.
 use Prim.Native.Nat.{_-_, _%_}
 use mathlib.Core.Path.{_∙_}
 use native.Mathlib.Omega.{arith}
@@ -26,8 +25,8 @@ returns c =
     let l = c .before .before .loop in
     number-ends (a .bytes .now) (a .self .at) (l .at) (l .weight) (l .value) (l .inv) (a .greatest) (c .if1 .taken)
 
-byte-requires : tie.Need-byte-requires Inv-loop μ-loop
-byte-requires c κs = tt
+byte-number-requires : tie.Need-byte-number-requires Inv-loop μ-loop
+byte-number-requires c κs = tt
 
 checked-requires : tie.Need-checked-requires Inv-loop μ-loop
 checked-requires c κs = tt
@@ -37,13 +36,13 @@ returns-2 c =
     let a = c .before .before .before .before .before .before .before .before .args in
     let l = c .before .before .before .before .before .before .loop in
     number-last (a .bytes .now) (a .self .at) (l .at) (l .weight) (l .value) (l .inv) (a .greatest) (c .before .before .before .before .if1 .left) (omega arith)
-    ∙ rw (c .before .before .byte .ensures .0) at (c .checked .ensures)
+    ∙ rw (c .before .before .byte-number .ensures .0) at (c .checked .ensures)
 
 loop-again : tie.Need-loop-again Inv-loop μ-loop
 loop-again c =
     let a = c .before .before .before .before .before .before .before .args in
     let l = c .before .before .before .before .before .loop in
-    rw (c .before .byte .ensures .0)
+    rw (c .before .byte-number .ensures .0)
     (passed-more (a .bytes .now) (a .self .at) (l .at) (l .weight) (l .value) (l .inv) (c .before .before .before .if1 .left)
     (omega (arith, l .inv .at-is)) (omega arith))
 
@@ -86,14 +85,14 @@ number-spec =
     sub-loop
     returns
     (λ c. omega arith)
-    byte-requires
+    byte-number-requires
     (λ c. omega arith)
-    (λ c. omega (arith, passed-fits _ _ _ _ _ (c .before .before .before .before .before .loop .inv) (omega arith) (c .before .byte .result) (omega arith)))
-    (λ c. omega (arith, passed-fits _ _ _ _ _ (c .before .before .before .before .before .loop .inv) (omega arith) (c .before .byte .result) (omega arith)))
+    (λ c. omega (arith, passed-fits _ _ _ _ _ (c .before .before .before .before .before .loop .inv) (omega arith) (c .before .byte-number .result) (omega arith)))
+    (λ c. omega (arith, passed-fits _ _ _ _ _ (c .before .before .before .before .before .loop .inv) (omega arith) (c .before .byte-number .result) (omega arith)))
     checked-requires
     returns-2
-    (λ c. omega (arith, passed-fits _ _ _ _ _ (c .before .before .before .before .before .loop .inv) (omega arith) (c .before .byte .result % 128) (omega arith)))
-    (λ c. omega (arith, passed-fits _ _ _ _ _ (c .before .before .before .before .before .loop .inv) (omega arith) (c .before .byte .result % 128) (omega arith)))
+    (λ c. omega (arith, passed-fits _ _ _ _ _ (c .before .before .before .before .before .loop .inv) (omega arith) (c .before .byte-number .result % 128) (omega arith)))
+    (λ c. omega (arith, passed-fits _ _ _ _ _ (c .before .before .before .before .before .loop .inv) (omega arith) (c .before .byte-number .result % 128) (omega arith)))
     (λ c. omega (arith, passed-fits _ _ _ _ _ (c .before .before .before .before .before .loop .inv) (omega arith) (128) (omega arith)))
     (λ c. omega arith)
     (λ c. omega arith)

@@ -1,6 +1,5 @@
 -- `run::campaign_file::Cursor::numbers` meets its contract. The loop's invariant: the values read so far stand in front of those that the
 -- definition reads from here on.
--- Assumes nothing.
 use Prim.Native.Nat.{_-_, _≤_}
 use mathlib.Core.Path.{_≡_, refl, ap, _∙_}
 use native.Mathlib.Omega.{arith}
@@ -8,7 +7,7 @@ use lib.ListN.{length, length-set}
 use borrow.Author.Needs.{needs}
 use Rattle.run.specs.CampaignFile.{greatestValues}
 use Rattle.run.specs.Code.FileAnswers.{numberField, numberStop}
-use Rattle.run.proofs.CampaignFile.InTurn.{stopped, ReadSo, read-none, read-more, read-stops, read-all}
+use Rattle.run.proofs.CampaignFile.InTurn.{refusal-handed, ReadSo, read-none, read-more, read-stops, read-all}
 use Rattle.run.proofs.campaign_file.Cursor.numbers.Statement.{statement}
 use Rattle.run.proofs.campaign_file.Cursor.numbers.Tie as tie
 
@@ -24,7 +23,7 @@ loop-holds c = (omega arith, c .before .before .pre, read-none greatestValues _ 
 returns : tie.Need-returns Inv-loop μ-loop
 returns c =
     read-stops (c .before .before .before .before .before .before .loop .inv .2) (omega arith)
-    (stopped numberField numberStop (rw (c .before .before .before .before .greatest .ensures) at (c .before .before .before .number .ensures)) (c .before .enum-told .given .1) (c .stop .ensures) refl)
+    (refusal-handed numberField numberStop (rw (c .before .before .before .before .greatest .ensures) at (c .before .before .before .number .ensures)) (c .before .enum-told .given .1) (c .stop .ensures) refl)
 
 loop-again : tie.Need-loop-again Inv-loop μ-loop
 loop-again c = (

@@ -1,5 +1,4 @@
 -- `run::campaign_file::NumbersRead::stop` meets its contract.
--- Assumes nothing.
 use borrow.Author.Needs.{needs}
 use mathlib.Core.Path.{ap, sym}
 use Rattle.run.specs.Code.FileAnswers.{numbersStop}

@@ -3,8 +3,8 @@ use native.Mathlib.Omega.{arith}
 use Rattle.execution.specs.Opcodes.{rows, decoded}
 use Rattle.execution.proofs.Table.{first-rows, rows-after}
 use borrow.Author.Needs.{needs}
-use Rattle.execution.proofs.opcodes.decode.Statement.{statement}
-use Rattle.execution.proofs.opcodes.decode.Tie as tie
+use Rattle.execution.proofs.opcodes.decode_first.Statement.{statement}
+use Rattle.execution.proofs.opcodes.decode_first.Tie as tie
 
 returns : tie.Need-returns
 unfolding decoded
@@ -14,5 +14,5 @@ returns-2 : tie.Need-returns-2
 unfolding decoded
 returns-2 c = c .row-8 .ensures ∙ rows-after rows 8 tt (omega arith) (c .before .before .args .byte) (omega arith) (omega arith)
 
-pub decode-spec : {M : Type 1} → statement M
-decode-spec = tie.close (tie.spec (λ c κs. search needs) (λ c κs. search needs) returns returns-2)
+pub decode-first-spec : {M : Type 1} → statement M
+decode-first-spec = tie.close (tie.spec (λ c κs. search needs) (λ c κs. search needs) returns returns-2)

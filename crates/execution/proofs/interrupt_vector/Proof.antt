@@ -1,7 +1,7 @@
 use mathlib.Core.Path.{sym}
 use Rattle.execution.proofs.Choices.{cond-true, cond-false}
-use Rattle.execution.proofs.vector_of.Statement.{statement}
-use Rattle.execution.proofs.vector_of.Tie as tie
+use Rattle.execution.proofs.interrupt_vector.Statement.{statement}
+use Rattle.execution.proofs.interrupt_vector.Tie as tie
 
 returns : tie.Need-returns
 returns c = sym (cond-true _ 0xFFFA 0xFFF8 (c .if1 .taken))
@@ -9,5 +9,5 @@ returns c = sym (cond-true _ 0xFFFA 0xFFF8 (c .if1 .taken))
 returns-2 : tie.Need-returns-2
 returns-2 c = sym (cond-false _ 0xFFFA 0xFFF8 (c .if1 .left))
 
-pub vector-of-spec : {M : Type 1} → statement M
-vector-of-spec = tie.close (tie.spec returns returns-2)
+pub interrupt-vector-spec : {M : Type 1} → statement M
+interrupt-vector-spec = tie.close (tie.spec returns returns-2)

@@ -7,7 +7,7 @@ use native.Mathlib.Omega.{arith}
 use borrow.Author.Tests.{le-leb, lt-leb}
 use Rattle.arithmetic.specs.Flags.{CF, bitOf, hasFlag}
 use Rattle.arithmetic.specs.Sums.{total, addOf, inverted}
-use Rattle.arithmetic.specs.Decimal.{adjust, decimalSumOf, dcaSum, dcsSum, Digits, valueOf, DcaDigits, DcsDigits}
+use Rattle.arithmetic.specs.Decimal.{plus66, adjust, decimalSumOf, dcaSum, dcsSum, Digits, valueOf, DcaDigits, DcsDigits}
 use Rattle.arithmetic.proofs.Compute.{both, both-left, both-right, atBoth, at-bool, every, at}
 use Rattle.arithmetic.proofs.Flags.{add-flags}
 
@@ -70,7 +70,7 @@ valid-digits v t =
 -- DCA's rule at the bytes of m and n
 dca-right : ℕ → ℕ → Bool → Bool
 dca-right m n c =
-    let l : ℕ = (digitsOf m + 0x66) % 256 in
+    let l : ℕ = plus66 (digitsOf m) in
     both (valid (result l (digitsOf n) c)) (eqb (valueOf (result l (digitsOf n) c) + 100 * bitOf (carries l (digitsOf n) c)) (m + n + bitOf c))
 
 dca-all : T (everywhere dca-right)
@@ -109,7 +109,7 @@ module _ (t a d : ℕ) (small : t < 256) (ha : Digits a) (hd : Digits d) where
   unfolding dcaSum dca-right
   dca-digits =
       let c : Bool = hasFlag t CF in
-      let l : ℕ = (a + 0x66) % 256 in
+      let l : ℕ = plus66 a in
       let value : decimalSumOf t l d c .value ≡ result l d c = value-is t small l d c in
       let carry : hasFlag (decimalSumOf t l d c .t) CF ≡ carries l d c = carry-is t small l d c in
       let right = rw (digits-back a ha, digits-back d hd) at (at-digits dca-right dca-all) in

@@ -11,7 +11,7 @@ use Rattle.arithmetic.specs.Flags.{CF, IE, ZF, hasFlag, setFlag, withFla
 use Rattle.arithmetic.specs.Logic.{ldaOf, andOf, oraOf, eorOf, bitTestOf, ttaOf}
 use Rattle.arithmetic.specs.Record.{with-a, with-t, with-x, with-y, with-u, with-s, with-p, with-is-halted, with-pu, with-pv, with-bf, with-disp, with-tm, with-ir1, with-ir2, with-is-timer-reached, with-timer-state, with-step-previous-state, with-ticks}
 use Rattle.arithmetic.specs.Sums.{addOf, inverted, carryOf, withSum, adcOf, sbcOf, cpaOf, adrOf}
-use Rattle.arithmetic.specs.Decimal.{decimalSumOf, dcaSum, dcsSum, dcaOf, dcsOf}
+use Rattle.arithmetic.specs.Decimal.{plus66, decimalSumOf, dcaSum, dcsSum, dcaOf, dcsOf}
 use Rattle.arithmetic.specs.Shifts.{leftOf, rightOf}
 use Rattle.arithmetic.proofs.Bytes.{bit-small}
 
@@ -176,7 +176,7 @@ module _ (m : Lh5801) where
 
   pub keeps-dca : (d : ℕ) → statusOf (dcaOf m d) ≡ statusOf m
   unfolding dcaOf dcaSum decimalSumOf
-  keeps-dca d = keeps-sum (dcaSum (m .t) (m .a) d) (add-enable (m .t) ((m .a + 0x66) % 256) d (carryOf m))
+  keeps-dca d = keeps-sum (dcaSum (m .t) (m .a) d) (add-enable (m .t) (plus66 (m .a)) d (carryOf m))
 
   pub keeps-dcs : (d : ℕ) → statusOf (dcsOf m d) ≡ statusOf m
   unfolding dcsOf dcsSum decimalSumOf

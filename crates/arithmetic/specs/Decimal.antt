@@ -23,9 +23,13 @@ adjusted s = record { value = (s .value + adjust (hasFlag (s .t) CF) (hasFlag (s
 unfoldable pub decimalSumOf : ℕ → ℕ → ℕ → Bool → Sum
 decimalSumOf t left right carry = adjusted (addOf t left right carry)
 
--- DCA on A, T and an operand: left is A + 66, wrapped to 8 bits
+-- "A + 66 wrapped to 8 bits"
+abbrev pub plus66 : ℕ → ℕ
+plus66 a = (a + 0x66) % 256
+
+-- DCA on A, T and an operand: left is A + 66
 unfoldable pub dcaSum : ℕ → ℕ → ℕ → Sum
-dcaSum t a d = decimalSumOf t ((a + 0x66) % 256) d (hasFlag t CF)
+dcaSum t a d = decimalSumOf t (plus66 a) d (hasFlag t CF)
 
 -- DCS on A, T and an operand: the operand is inverted
 unfoldable pub dcsSum : ℕ → ℕ → ℕ → Sum

@@ -13,7 +13,7 @@ pub mod opcodes;
 use std::sync::OnceLock;
 
 pub use self::lh5801::Lh5801;
-use call::{entry_stop, Record};
+use call::{refusal, Record};
 
 /// The included file. Only code of this module reaches its private fields and functions.
 #[allow(dead_code, unused, clippy::all, clippy::pedantic)]
@@ -88,9 +88,9 @@ pub trait Watch {
     /// BF is clear.
     fn off(&mut self) {}
     /// IR0 is set.
-    fn frozen(&mut self) {}
+    fn held(&mut self) {}
     /// An interrupt is accepted.
-    fn entry(&mut self) {}
+    fn interrupt(&mut self) {}
     /// A listed byte of the first page (0) or after FD (1) is executed.
     fn executed(&mut self, _page: usize, _byte: u8) {}
 }
@@ -121,11 +121,11 @@ impl Pc1500 {
         }
     }
 
-    /// Document 01's run call. The entry's stops, 5, 6 and 7 are this harness's own.
+    /// Document 01's run call. 1 to 7 are this harness's own.
     #[inline(never)]
     pub fn original_run<W: Watch>(&mut self, limit: u32, watch: &mut W) -> Returned {
         let lengths = [self.page0.len(), self.page1.len()];
-        if let Some(number) = entry_stop(lengths, self.lh5801.record().tm, limit) {
+        if let Some(number) = refusal(lengths, self.lh5801.record().tm, limit) {
             return Returned { number, ..Returned::default() };
         }
         let listed = listed();
@@ -150,11 +150,11 @@ impl Pc1500 {
             return None;
         }
         if unit.ir0() {
-            watch.frozen();
+            watch.held();
             return None;
         }
         if unit.is_requested() && unit.ie() {
-            watch.entry();
+            watch.interrupt();
             return None;
         }
         if unit.is_halted() {

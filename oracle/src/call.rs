@@ -88,8 +88,8 @@ pub struct Call {
     pub pages: [Vec<u8>; 2],
 }
 
-/// The harness's own entry stops, in document 01's order.
-pub fn entry_stop(lengths: [usize; 2], tm: u16, limit: u32) -> Option<u8> {
+/// The number of a call that is not accepted, 1 to 4, in document 01's order: the harness's own.
+pub fn refusal(lengths: [usize; 2], tm: u16, limit: u32) -> Option<u8> {
     if lengths[0] > GREATEST_PAGE {
         Some(1)
     } else if lengths[1] > GREATEST_PAGE {

@@ -79,7 +79,8 @@ impl Reader<'_> {
         Ok(record)
     }
 
-    /// A page's length and its bytes. A page that is cut short is returned where its bytes begin.
+    /// A page's length and its bytes. A page that is cut short is refused at the place where its
+    /// bytes begin.
     fn page(&mut self) -> Result<Vec<u8>, Defect> {
         let length = self.number(GREATEST_CAMPAIGN_PAGE)? as usize;
         let begin = self.place;
@@ -182,7 +183,7 @@ mod tests {
     }
 
     #[test]
-    fn an_end_comes_before_everything_that_is_judged_later() {
+    fn an_end_comes_before_everything_that_is_tested_later() {
         assert_eq!(returned(&[]), (8, 0));
         assert_eq!(returned(&[0xFF, 0xFF]), (8, 0));
         assert_eq!(returned(&[0x80]), (8, 0));
@@ -191,7 +192,7 @@ mod tests {
     }
 
     #[test]
-    fn numbers_are_judged_after_their_last_group() {
+    fn numbers_are_tested_after_their_last_group() {
         assert_eq!(returned(&[0x80, 0x00]), (9, 0));
         assert_eq!(returned(&[0x80, 0x02]), (9, 0));
         assert_eq!(returned(&[0x80; 10]), (9, 0));

@@ -46,7 +46,7 @@ impl Comparison {
 
 /// The original's `get_mem16` reads the low byte of a vector first; document 01 has the high byte
 /// first. Nothing in the original's log tells a vector's reads from others, so the places come from
-/// the model's marks: exactly the entries that the model marks as a vector's are exchanged.
+/// the model's marks: exactly the accesses that the model marks as a vector's are exchanged.
 fn order_vectors(original: &mut [Access], model: &Log) {
     for (i, access) in model.accesses.iter().enumerate() {
         if access.kind == AccessKind::VectorHigh && i + 1 < original.len() {
@@ -235,7 +235,7 @@ pub fn report_smallest(comparison: &mut Comparison, call: Call) {
     println!("first difference: {}", difference.unwrap_or_default());
 }
 
-/// An answer in one line: document 01's line, the byte and the accesses, where they are returned.
+/// An answer in one line: document 01's line, the byte and the accesses, where there is a log.
 fn returned(answer: &Answer) -> String {
     let line = format!("{} byte {:02X}", answer.line(), answer.byte);
     let Some(log) = &answer.log else { return line };

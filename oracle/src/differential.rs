@@ -47,8 +47,8 @@ struct Counts {
     executed: [[u64; 256]; 2],
     unlisted: [[u64; 256]; 2],
     off: u64,
-    frozen: u64,
-    entries: u64,
+    held: u64,
+    interrupts: u64,
     code_edges: u64,
     stack_edges: u64,
     /// Calls by the lengths of the pages: empty, whole, between.
@@ -67,8 +67,8 @@ impl Counts {
             executed: [[0; 256]; 2],
             unlisted: [[0; 256]; 2],
             off: 0,
-            frozen: 0,
-            entries: 0,
+            held: 0,
+            interrupts: 0,
             code_edges: 0,
             stack_edges: 0,
             lengths: [[0; 3]; 2],
@@ -93,7 +93,7 @@ impl Counts {
 
     /// Steps with BF set and IR0 clear: an instruction or an interrupt.
     fn busy(&self) -> u64 {
-        self.steps - self.off - self.frozen
+        self.steps - self.off - self.held
     }
 
     fn join(&mut self, other: &Counts) {
@@ -104,8 +104,8 @@ impl Counts {
         self.steps += other.steps;
         self.sampled += other.sampled;
         self.off += other.off;
-        self.frozen += other.frozen;
-        self.entries += other.entries;
+        self.held += other.held;
+        self.interrupts += other.interrupts;
         self.code_edges += other.code_edges;
         self.stack_edges += other.stack_edges;
         add(&mut self.stops, &other.stops);
@@ -138,7 +138,7 @@ impl Counts {
         );
         println!(
             "steps with an interrupt {}, with BF clear {}, with IR0 set {}",
-            self.entries, self.off, self.frozen
+            self.interrupts, self.off, self.held
         );
         for (page, [empty, whole, between]) in self.lengths.iter().enumerate() {
             println!("calls by page {page}: empty {empty}, whole {whole}, between {between}");
@@ -172,11 +172,11 @@ impl Watch for Counts {
     fn off(&mut self) {
         self.off += 1;
     }
-    fn frozen(&mut self) {
-        self.frozen += 1;
+    fn held(&mut self) {
+        self.held += 1;
     }
-    fn entry(&mut self) {
-        self.entries += 1;
+    fn interrupt(&mut self) {
+        self.interrupts += 1;
     }
     fn executed(&mut self, page: usize, byte: u8) {
         self.executed[page][usize::from(byte)] += 1;

@@ -85,7 +85,7 @@ pub fn marked() -> Vec<(u32, Vec<Sparse>)> {
     ]
 }
 
-/// One call for each number from 0 to 7, and the entry's stops before one another.
+/// One call for each number from 0 to 7, and those of 1 to 4 before one another.
 fn stops() -> Vec<Sparse> {
     let plain = code(flagged(ON), 1, &[0x38]);
     let long0 = Sparse { lengths: [65_537, 0], ..plain.clone() };
@@ -150,7 +150,7 @@ fn differences() -> Vec<Sparse> {
         (0, u64::MAX - 41),
         (u64::MAX, u64::MAX - 42),
     ];
-    let frozen = pairs.map(|(timer_state, step_previous_state)| {
+    let held = pairs.map(|(timer_state, step_previous_state)| {
         let record = Record { tm: 0x1FE, timer_state, step_previous_state, ..flagged(ON + 0x20) };
         code(record, 2, &[])
     });
@@ -160,7 +160,7 @@ fn differences() -> Vec<Sparse> {
     let run = running.into_iter().chain(off).map(|(timer_state, flags, bytes)| {
         code(Record { tm: 0x155, timer_state, ..flagged(flags) }, 1, &bytes)
     });
-    frozen.into_iter().chain(run).collect()
+    held.into_iter().chain(run).collect()
 }
 
 /// Interrupts, BF clear, OFF, HLT, and AM in a step that shifts.

@@ -44,7 +44,7 @@ FILE or with -, at most 33,000 bytes of it, and prints document 01's line from t
 ";
 
 pub const COMPARE_HELP: &str = "\
-oracle compare N [--seed S] [--side model]
+oracle compare N [--seed S] [--side model|port]
 
 Runs N random calls on the original and on another side and compares number, byte, steps, states,
 end record and both pages; of the model also the accesses, with the original's vector reads put in

@@ -71,7 +71,7 @@ impl Side for Model {
     }
 }
 
-/// The entry's conditions, in document 01's order.
+/// The conditions of 1 to 4, in document 01's order.
 fn refusal(call: &Call) -> Option<u8> {
     let conditions = [
         call.pages[0].len() > GREATEST_PAGE,

@@ -1,7 +1,7 @@
 //! The original `lh5801.rs`, included unchanged, over the flat memory.
 //!
 //! What is the original's own: a completed step, and stops 5 and 6, which are its panics. What is
-//! this harness's own: the entry's stops 1 to 4 and stop 7, the undoing of a step that stops, and
+//! this harness's own: 1 to 4 and stop 7, the undoing of a step that stops, and
 //! everything that the file expects of the machine around it.
 
 #![forbid(unsafe_code)]
@@ -12,7 +12,7 @@ use std::panic::{catch_unwind, set_hook, take_hook, AssertUnwindSafe};
 use std::sync::Once;
 
 use self::lh5801::Lh5801;
-use crate::call::{entry_stop, AccessKind, Answer, Call, Record, Side};
+use crate::call::{refusal, AccessKind, Answer, Call, Record, Side};
 use crate::memory::Memory;
 use bare::Keyboard;
 
@@ -216,7 +216,7 @@ impl Side for Original {
     fn call(&mut self, call: &Call) -> Answer {
         install_silent_hook();
         let lengths = [call.pages[0].len(), call.pages[1].len()];
-        if let Some(number) = entry_stop(lengths, call.record.tm, call.limit) {
+        if let Some(number) = refusal(lengths, call.record.tm, call.limit) {
             return Answer::refused(call, number);
         }
         let mut machine = Pc1500::new(&call.record, call.keyboard, call.pages.clone());

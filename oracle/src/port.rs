@@ -210,7 +210,7 @@ mod tests {
         }
     }
 
-    /// A page above 65,536 bytes is returned, page 0 first; up to there the run is made.
+    /// A page above 65,536 bytes is answered with 1 or 2, page 0 first; up to there the run is made.
     #[cfg(feature = "port")]
     #[test]
     fn pages_above_the_greatest_length() {

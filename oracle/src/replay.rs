@@ -16,8 +16,8 @@ use crate::list::Sparse;
 use crate::port::Port;
 use crate::progress::Progress;
 
-/// An entry of the list; the head of `../crates/replay/src/main.rt` tells the form.
-struct Entry<'a> {
+/// An item of the list; the head of `../crates/replay/src/main.rt` has its form.
+struct Item<'a> {
     file: &'a [u8],
     /// With its newline.
     line: &'a [u8],
@@ -45,13 +45,13 @@ impl<'a> Rest<'a> {
         Ok(bytes.iter().rev().fold(0, |value, byte| value << 8 | u64::from(*byte)))
     }
 
-    fn entry(&mut self) -> Result<Entry<'a>, String> {
+    fn item(&mut self) -> Result<Item<'a>, String> {
         let file = self.number(2)? as usize;
         let lengths = [self.number(4)? as usize, self.number(4)? as usize];
         let line = self.number(1)? as usize;
         let fill = (self.number(1)? as u8, self.number(1)? as u8);
         let set = 4 * self.number(1)? as usize;
-        Ok(Entry {
+        Ok(Item {
             file: self.take(file)?,
             line: self.take(line)?,
             lengths,
@@ -62,8 +62,8 @@ impl<'a> Rest<'a> {
     }
 }
 
-impl Entry<'_> {
-    /// The file's call on the entry's pages: the fill rule, then the file's bytes at their starts,
+impl Item<'_> {
+    /// The file's call on the item's pages: the fill rule, then the file's bytes at their starts,
     /// then the bytes that are set.
     fn call(&self, file: Call) -> Result<Call, String> {
         let [page0, page1] = file.pages;
@@ -85,7 +85,7 @@ fn sums(pages: &[Vec<u8>; 2]) -> [u64; 2] {
     })
 }
 
-/// What the entries of a list have in them.
+/// What the items of a list have in them.
 #[derive(Default)]
 struct Tally {
     calls: u64,
@@ -99,15 +99,15 @@ struct Tally {
 }
 
 impl Tally {
-    /// Replays an entry; true where the port's answer is the list's.
-    fn replay(&mut self, entry: &Entry, report: Report) -> Result<bool, String> {
+    /// Replays an item; true where the port's answer is the list's.
+    fn replay(&mut self, item: &Item, report: Report) -> Result<bool, String> {
         // A block that ends where the file ends.
-        let file = entry.file.to_vec().into_boxed_slice();
+        let file = item.file.to_vec().into_boxed_slice();
         let Ok(read) = campaign::read(&file) else {
             self.refused += 1;
-            return Ok(report(&file)? == entry.line);
+            return Ok(report(&file)? == item.line);
         };
-        let call = entry.call(read)?;
+        let call = item.call(read)?;
         for page in &call.pages {
             for (count, length) in self.pages.iter_mut().zip([0, 65_536, 65_537]) {
                 *count += u64::from(page.len() == length);
@@ -118,14 +118,14 @@ impl Tally {
         self.steps += answer.steps;
         self.most_steps = self.most_steps.max(answer.steps);
         let line = format!("{}\n", answer.line()).into_bytes();
-        Ok(answer.failure.is_none() && line == entry.line && sums(&answer.pages) == entry.sums)
+        Ok(answer.failure.is_none() && line == item.line && sums(&answer.pages) == item.sums)
     }
 
     /// Prints what there was; true where nothing differs.
     fn print(&self) -> bool {
         let Tally { calls, refused, steps, most_steps, pages, differing } = self;
-        for entry in differing {
-            println!("entry {entry} differs");
+        for item in differing {
+            println!("item {item} differs");
         }
         let [empty, greatest, above] = pages;
         println!(
@@ -133,7 +133,7 @@ impl Tally {
         );
         println!("  {empty} pages empty, {greatest} of 65,536 bytes, {above} of 65,537");
         println!("{refused} files turned down through probe_report");
-        println!("{} entries, {} differences", calls + refused, differing.len());
+        println!("{} items, {} differences", calls + refused, differing.len());
         differing.is_empty()
     }
 }
@@ -144,8 +144,8 @@ fn replay_file(bytes: &[u8], report: Report, tally: &mut Tally) -> Result<(), St
     let mut rest = Rest(bytes);
     while !rest.0.is_empty() {
         let number = tally.calls + tally.refused + 1;
-        let entry = rest.entry()?;
-        if !tally.replay(&entry, report)? {
+        let item = rest.item()?;
+        if !tally.replay(&item, report)? {
             tally.differing.push(number);
         }
         progress.show((bytes.len() - rest.0.len()) as u64);

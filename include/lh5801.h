@@ -67,10 +67,10 @@
  *   and
  *     0     all the steps asked for were done
  *
- * With 1 to 4 the record comes back as given (within its widths), steps and states are 0 and the
- * pages are untouched. With 5, 6 and 7 the record and the pages are as they were before the step
- * that stopped, and steps and states are those of the completed steps. FD 00 stops with 6 and the
- * byte 0, so a byte of 0 does not mean that there was none.
+ * With 1 to 4 the record comes back as given (each word taken as above), steps and states are 0 and
+ * the pages are untouched. With 5, 6 and 7 the record and the pages are as they were before the
+ * step that stopped, and steps and states are those of the completed steps. FD 00 stops with 6 and
+ * the byte 0, so a byte of 0 does not mean that there was none.
  *
  * The library has no global data, allocates nothing, calls nothing outside itself and keeps nothing
  * between calls. Calls on different words and pages may run at the same time on different threads.

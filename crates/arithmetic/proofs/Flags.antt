@@ -1,12 +1,12 @@
 -- What T tells after its flags were set.
-use mathlib.Core.Bool.{Bool, true, false}
+use mathlib.Core.Bool.{Bool, true, false, cond}
 use mathlib.Core.Path.{_≡_, refl}
 use Prim.Native.Nat.{ℕ, _<_, _+_, _-_, _*_, _/_, _%_, _^_}
 use native.Mathlib.Omega.{arith}
 use borrow.Author.Tests.{leb-true, leb-false}
 use lib.Bits.{bitAnd}
 use lib.Dec.{T, eqb, eqb→eq, leb}
-use Rattle.arithmetic.specs.Flags.{CF, IE, ZF, VF, HF, bitOf, pick, hasFlag, setFlag, checkZ, withFlags, FlagsAre, OnlyFlag}
+use Rattle.arithmetic.specs.Flags.{CF, IE, ZF, VF, HF, bitOf, hasFlag, setFlag, checkZ, withFlags, FlagsAre, OnlyFlag}
 use Rattle.arithmetic.specs.Sums.{total, overflowOf, addOf, adrOf, AddFlags}
 use Rattle.arithmetic.specs.Decimal.{decimalSumOf}
 use Rattle.arithmetic.specs.Logic.{ldaOf, ttaOf}
@@ -83,13 +83,13 @@ only-flag i t hi ht v =
 
 -- TTA's two tests of Z: T 04 stays 04, every other T loses Z
 tta-holds : ℕ → Bool
-tta-holds t = eqb (checkZ (checkZ t t) (checkZ t t)) (pick (eqb t 4) 4 (bitAnd t 0xFB))
+tta-holds t = eqb (checkZ (checkZ t t) (checkZ t t)) (cond (eqb t 4) 4 (bitAnd t 0xFB))
 
 tta-all : T (every tta-holds 0 256)
 unfolding tta-holds
 tta-all = tt
 
-pub tta-z : (m : Lh5801) → m .t < 256 → ttaOf m .t ≡ pick (eqb (m .t) 4) 4 (bitAnd (m .t) 0xFB)
+pub tta-z : (m : Lh5801) → m .t < 256 → ttaOf m .t ≡ cond (eqb (m .t) 4) 4 (bitAnd (m .t) 0xFB)
 unfolding ttaOf ldaOf with-a with-t tta-holds
 tta-z m small = eqb→eq _ _ (at tta-holds 256 tta-all (m .t) small)
 

@@ -1,7 +1,7 @@
 -- T, the flags (document 01, "Record and pages"): bit 0 is C, 1 is IE, 2 is Z, 3 is V and 4 is H. The upper three bits mean nothing and
 -- are kept by all that goes through this file.
 use Prim.Native.Nat.{ℕ, _+_, _-_, _*_, _/_, _%_}
-use mathlib.Core.Bool.{Bool, true, false, not}
+use mathlib.Core.Bool.{Bool, true, false, not, cond}
 use mathlib.Core.Path.{_≡_}
 use lib.Dec.{eqb}
 use lib.Bits.{bitAnd, bitOr}
@@ -27,18 +27,13 @@ abbrev pub bitOf : Bool → ℕ
 bitOf true = 1
 bitOf false = 0
 
--- one of two numbers: the first where the test holds
-abbrev pub pick : Bool → ℕ → ℕ → ℕ
-pick true a b = a
-pick false a b = b
-
--- is one of the mask's bits set in T?
+-- is one of the mask's bits set in the byte?
 abbrev pub hasFlag : ℕ → ℕ → Bool
 hasFlag t mask = not (eqb (bitAnd t mask) 0)
 
 -- T with the mask's bits set or cleared, and all others kept
 abbrev pub setFlag : ℕ → ℕ → Bool → ℕ
-setFlag t mask v = pick v (bitOr t mask) (bitAnd t (255 - mask))
+setFlag t mask v = cond v (bitOr t mask) (bitAnd t (255 - mask))
 
 -- T with Z from a value, and all else kept: `check_z`
 abbrev pub checkZ : ℕ → ℕ → ℕ

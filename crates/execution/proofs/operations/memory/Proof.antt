@@ -7,7 +7,16 @@ use Rattle.execution.proofs.operations.memory.Tie as tie
 
 returns : tie.Need-returns
 unfolding memoryOf
-returns c = does-then _ (does-locate (c .before .before .before .before .before .before .before .before .before .before .before .before .before .before .before .before .before .before .before .before .before .before .args .cpu) (c .before .before .before .before .before .before .before .before .before .before .before .before .before .before .before .before .before .before .before .before .before .before .args .place) (c .before .before .before .before .before .before .before .before .before .before .before .before .before .before .before .before .before .before .before .word-at .ensures) (c .before .before .before .before .before .before .before .before .before .before .before .before .before .before .before .before .locate .ensures)) (does-then _ (c .before .before .before .before .before .before .before .before .before .before .before .before .before .cpu-readop .ensures) (does-then _ (c .before .before .before .before .before .before .before .before .before .before .read-byte .ensures) (does-then _ (rw (c .before .before .before .before .before .before .before .before .before .changed .ensures) at (c .before .before .before .before .before .before .write-byte .ensures)) (does-done (rw (c .with-t .ensures, c .before .with-p .ensures, c .before .before .before .before .before .before .before .before .before .changed .ensures))))))
+returns c =
+    let change = c .before .before .before .before .before .before .before .before .before in
+    let located = change .before .before .before .before .before .before .before in
+    let start = located .before .before .before .before .before .before in
+    let changed = change .changed .ensures in
+    does-then _ (does-locate (start .args .cpu) (start .args .place) (located .before .before .before .word-at .ensures) (located .locate .ensures))
+    (does-then _ (change .before .before .before .before .cpu-readop .ensures)
+    (does-then _ (change .before .read-byte .ensures)
+    (does-then _ (rw changed at (c .before .before .before .before .before .before .write-byte .ensures))
+    (does-done (rw (c .with-t .ensures, c .before .with-p .ensures, changed))))))
 
 pub memory-spec : {M : Type 1} → statement M
 memory-spec =

@@ -1,7 +1,6 @@
-use mathlib.Core.Bool.{true, false}
-use mathlib.Core.Path.{_∙_, ap, sym}
+use mathlib.Core.Path.{refl, _∙_, ap, sym}
 use Rattle.pages.specs.Timer.{timerPartOf}
-use Rattle.execution.proofs.Order.{step-due, instruction-settled, instruction-other, instruction-unlisted}
+use Rattle.execution.proofs.Order.{instruction-listed, instruction-unlisted}
 use Rattle.execution.proofs.DueAgain.{again, executed-small}
 use borrow.Author.Needs.{needs}
 use Rattle.execution.proofs.instruction.Statement.{statement}
@@ -10,67 +9,59 @@ use Rattle.execution.proofs.instruction.Tie as tie
 timer-part-requires : tie.Need-timer-part-requires
 timer-part-requires c κs =
     let done = c .before .before .before .before .before .before .before in
-    let coded = done .before .before .before .before .before .before .before in
-    let start = coded .before .before .before .before .before .before in
+    let decoded = done .before .before .before .before .before .before .before in
+    let start = decoded .before .before .before .before .before .before in
     executed-small (start .args .cpu) _ (start .args .inputs) _ _ (start .pre .0) (rw (done .before .before .before .with-p .ensures) at (done .execute .ensures)) (c .add-state .ensures)
 
 timer-part-requires-2 : tie.Need-timer-part-requires-2
 timer-part-requires-2 c κs =
     let done = c .before .before .before .before .before .before .before in
-    let coded = done .before .before .before .before .before .before .before in
-    let start = coded .before .before .before .before .before .before in
+    let decoded = done .before .before .before .before .before .before .before in
+    let start = decoded .before .before .before .before .before .before in
     executed-small (start .args .cpu) _ (start .args .inputs) _ _ (start .pre .0) (rw (done .before .before .before .with-p .ensures) at (done .execute .ensures)) (c .add-state2 .ensures)
 
 returns : tie.Need-returns
 returns c =
     let done = c .before .before .before .before .before .before .before .before .before in
-    let fetched = done .before .before .before .before .before .before .before .before in
-    let start = fetched .before .before .before .before .before in
-    let m = start .args .cpu in
-    let inputs = start .args .inputs in
-    let listed = sym (done .before .before .before .before .before .before .before .decode .ensures) ∙ done .before .before .before .before .before .i .given .1 in
+    let decoded = done .before .before .before .before .before .before .before in
+    let start = decoded .before .before .before .before .before .before in
+    let listed = sym (decoded .decode .ensures) ∙ done .before .before .before .before .before .i .given .1 in
     let executed = rw (done .before .before .before .with-p .ensures) at (done .execute .ensures) in
     let settled = sym (c .before .before .before .before .settled .ensures) ∙ c .before .before .before .if1 .taken in
-    let now = c .before .timer-part .ensures ∙ ap timerPartOf (c .before .before .add-state .ensures) in
-    (rw (step-due m inputs (start .pre .1)) (instruction-settled m inputs true (fetched .fetch .ensures) listed executed now settled (c .if2 .taken)), tt)
+    let timed = c .before .timer-part .ensures ∙ ap timerPartOf (c .before .before .add-state .ensures) in
+    (instruction-listed (start .args .cpu) (start .args .inputs) (start .pre .1) (decoded .before .fetch .ensures) listed executed timed settled (c .if2 .taken), tt)
 
 returns-2 : tie.Need-returns-2
 returns-2 c =
     let done = c .before .before .before .before .before .before .before .before .before in
-    let fetched = done .before .before .before .before .before .before .before .before in
-    let start = fetched .before .before .before .before .before in
-    let m = start .args .cpu in
-    let inputs = start .args .inputs in
-    let listed = sym (done .before .before .before .before .before .before .before .decode .ensures) ∙ done .before .before .before .before .before .i .given .1 in
+    let decoded = done .before .before .before .before .before .before .before in
+    let start = decoded .before .before .before .before .before .before in
+    let listed = sym (decoded .decode .ensures) ∙ done .before .before .before .before .before .i .given .1 in
     let executed = rw (done .before .before .before .with-p .ensures) at (done .execute .ensures) in
     let settled = sym (c .before .before .before .before .settled .ensures) ∙ c .before .before .before .if1 .taken in
     let states = c .before .before .add-state .ensures in
-    let timer = c .before .timer-part .ensures in (
-      rw (step-due m inputs (start .pre .1)) (instruction-settled m inputs false (fetched .fetch .ensures) listed executed (timer ∙ ap timerPartOf states) settled (c .if2 .left)),
-      again m _ inputs _ _ settled (start .pre .1) executed states timer (c .if2 .left),
+    let timed = c .before .timer-part .ensures in (
+      instruction-listed (start .args .cpu) (start .args .inputs) (start .pre .1) (decoded .before .fetch .ensures) listed executed (timed ∙ ap timerPartOf states) settled (c .if2 .left),
+      again (start .args .cpu) _ (start .args .inputs) _ _ settled (start .pre .1) executed states timed (c .if2 .left),
     )
 
 returns-3 : tie.Need-returns-3
 returns-3 c =
     let done = c .before .before .before .before .before .before .before .before in
-    let fetched = done .before .before .before .before .before .before .before .before in
-    let start = fetched .before .before .before .before .before in
-    let m = start .args .cpu in
-    let inputs = start .args .inputs in
-    let listed = sym (done .before .before .before .before .before .before .before .decode .ensures) ∙ done .before .before .before .before .before .i .given .1 in
+    let decoded = done .before .before .before .before .before .before .before in
+    let start = decoded .before .before .before .before .before .before in
+    let listed = sym (decoded .decode .ensures) ∙ done .before .before .before .before .before .i .given .1 in
     let executed = rw (done .before .before .before .with-p .ensures) at (done .execute .ensures) in
     let settled = sym (c .before .before .before .settled .ensures) ∙ c .before .before .if1 .left in
-    let now = c .timer-part2 .ensures ∙ ap timerPartOf (c .before .add-state2 .ensures) in
-    (rw (step-due m inputs (start .pre .1)) (instruction-other m inputs (fetched .fetch .ensures) listed executed now settled), tt)
+    let timed = c .timer-part2 .ensures ∙ ap timerPartOf (c .before .add-state2 .ensures) in
+    (instruction-listed (start .args .cpu) (start .args .inputs) (start .pre .1) (decoded .before .fetch .ensures) listed executed timed settled refl, tt)
 
 returns-4 : tie.Need-returns-4
 returns-4 c =
-    let fetched = c .before .before .before .before in
-    let start = fetched .before .before .before .before .before in
-    let m = start .args .cpu in
-    let inputs = start .args .inputs in
-    let unlisted = sym (c .before .before .before .decode .ensures) ∙ c .before .enum-told .given .1 in
-    (rw (step-due m inputs (start .pre .1)) (instruction-unlisted m inputs (fetched .fetch .ensures) unlisted (c .unlisted .ensures)), tt)
+    let decoded = c .before .before .before in
+    let start = decoded .before .before .before .before .before .before in
+    let unlisted = sym (decoded .decode .ensures) ∙ c .before .enum-told .given .1 in
+    (instruction-unlisted (start .args .cpu) (start .args .inputs) (start .pre .1) (decoded .before .fetch .ensures) unlisted (c .unlisted .ensures), tt)
 
 pub instruction-spec : {M : Type 1} → statement M
 instruction-spec =

@@ -10,58 +10,55 @@ timer-part-requires : tie.Need-timer-part-requires
 timer-part-requires c κs =
     let done = c .before .before .before .before .before .before .before in
     let decoded = done .before .before .before .before .before .before .before in
-    let start = decoded .before .before .before .before .before .before in
-    executed-small (start .args .cpu) _ (start .args .inputs) _ _ (start .pre .0) (rw (done .before .before .before .with-p .ensures) at (done .execute .ensures)) (c .add-state .ensures)
+    executed-small _ _ _ _ _ (decoded .before .before .before .before .before .before .pre .0) (rw (done .before .before .before .with-p .ensures) at (done .execute .ensures)) (c .add-state .ensures)
 
 timer-part-requires-2 : tie.Need-timer-part-requires-2
 timer-part-requires-2 c κs =
     let done = c .before .before .before .before .before .before .before in
     let decoded = done .before .before .before .before .before .before .before in
-    let start = decoded .before .before .before .before .before .before in
-    executed-small (start .args .cpu) _ (start .args .inputs) _ _ (start .pre .0) (rw (done .before .before .before .with-p .ensures) at (done .execute .ensures)) (c .add-state2 .ensures)
+    executed-small _ _ _ _ _ (decoded .before .before .before .before .before .before .pre .0) (rw (done .before .before .before .with-p .ensures) at (done .execute .ensures)) (c .add-state2 .ensures)
 
 returns : tie.Need-returns
 returns c =
     let done = c .before .before .before .before .before .before .before .before .before in
     let decoded = done .before .before .before .before .before .before .before in
-    let start = decoded .before .before .before .before .before .before in
+    let ready = decoded .before .before .before .before .before .before .pre .1 in
     let listed = sym (decoded .decode .ensures) ∙ done .before .before .before .before .before .i .given .1 in
     let executed = rw (done .before .before .before .with-p .ensures) at (done .execute .ensures) in
     let settled = sym (c .before .before .before .before .settled .ensures) ∙ c .before .before .before .if1 .taken in
     let timed = c .before .timer-part .ensures ∙ ap timerPartOf (c .before .before .add-state .ensures) in
-    (instruction-listed (start .args .cpu) (start .args .inputs) (start .pre .1) (decoded .before .fetch .ensures) listed executed timed settled (c .if2 .taken), tt)
+    (instruction-listed _ _ ready (decoded .before .fetch .ensures) listed executed timed settled (c .if2 .taken), tt)
 
 returns-2 : tie.Need-returns-2
 returns-2 c =
     let done = c .before .before .before .before .before .before .before .before .before in
     let decoded = done .before .before .before .before .before .before .before in
-    let start = decoded .before .before .before .before .before .before in
+    let ready = decoded .before .before .before .before .before .before .pre .1 in
     let listed = sym (decoded .decode .ensures) ∙ done .before .before .before .before .before .i .given .1 in
     let executed = rw (done .before .before .before .with-p .ensures) at (done .execute .ensures) in
     let settled = sym (c .before .before .before .before .settled .ensures) ∙ c .before .before .before .if1 .taken in
     let states = c .before .before .add-state .ensures in
     let timed = c .before .timer-part .ensures in (
-      instruction-listed (start .args .cpu) (start .args .inputs) (start .pre .1) (decoded .before .fetch .ensures) listed executed (timed ∙ ap timerPartOf states) settled (c .if2 .left),
-      again (start .args .cpu) _ (start .args .inputs) _ _ settled (start .pre .1) executed states timed (c .if2 .left),
+      instruction-listed _ _ ready (decoded .before .fetch .ensures) listed executed (timed ∙ ap timerPartOf states) settled (c .if2 .left),
+      again _ _ _ _ _ settled ready executed states timed (c .if2 .left),
     )
 
 returns-3 : tie.Need-returns-3
 returns-3 c =
     let done = c .before .before .before .before .before .before .before .before in
     let decoded = done .before .before .before .before .before .before .before in
-    let start = decoded .before .before .before .before .before .before in
+    let ready = decoded .before .before .before .before .before .before .pre .1 in
     let listed = sym (decoded .decode .ensures) ∙ done .before .before .before .before .before .i .given .1 in
     let executed = rw (done .before .before .before .with-p .ensures) at (done .execute .ensures) in
     let settled = sym (c .before .before .before .settled .ensures) ∙ c .before .before .if1 .left in
     let timed = c .timer-part2 .ensures ∙ ap timerPartOf (c .before .add-state2 .ensures) in
-    (instruction-listed (start .args .cpu) (start .args .inputs) (start .pre .1) (decoded .before .fetch .ensures) listed executed timed settled refl, tt)
+    (instruction-listed _ _ ready (decoded .before .fetch .ensures) listed executed timed settled refl, tt)
 
 returns-4 : tie.Need-returns-4
 returns-4 c =
     let decoded = c .before .before .before in
-    let start = decoded .before .before .before .before .before .before in
     let unlisted = sym (decoded .decode .ensures) ∙ c .before .enum-told .given .1 in
-    (instruction-unlisted (start .args .cpu) (start .args .inputs) (start .pre .1) (decoded .before .fetch .ensures) unlisted (c .unlisted .ensures), tt)
+    (instruction-unlisted _ _ (decoded .before .before .before .before .before .before .pre .1) (decoded .before .fetch .ensures) unlisted (c .unlisted .ensures), tt)
 
 pub instruction-spec : {M : Type 1} → statement M
 instruction-spec =

@@ -10,28 +10,26 @@ timer-part-requires c κs = c .before .before .before .pre .0
 returns : tie.Need-returns
 returns c =
     let start = c .before .before .before .before in
-    step-held (start .args .cpu) (start .args .inputs) (start .pre .1) (start .pre .2) (c .before .if1 .taken) (c .timer-part .ensures)
+    step-held _ _ (start .pre .1) (start .pre .2) (c .before .if1 .taken) (c .timer-part .ensures)
 
 timer-part-requires-2 : tie.Need-timer-part-requires-2
 timer-part-requires-2 c κs =
     let cleared = c .before .before .before .before .before .before .before in
-    let start = cleared .before .before .before .before .before .before .before .before in
-    accept-small _ _ (rw (cleared .acknowledged .ensures, acknowledged-tm (start .args .cpu)) (start .pre .0)) (c .before .before .before .before .accept .ensures)
+    accept-small _ _ (rw (cleared .acknowledged .ensures, acknowledged-tm) (cleared .before .before .before .before .before .before .before .before .pre .0)) (c .before .before .before .before .accept .ensures)
 
 returns-2 : tie.Need-returns-2
 returns-2 c =
     let cleared = c .before .before .before .before .before .before .before .before in
     let flag = cleared .before .before .before in
     let start = flag .before .before .before .before .before in
-    step-interrupt (start .args .cpu) (start .args .inputs) (start .pre .1) (start .pre .2) (flag .get-flag .result) (flag .get-flag .ensures) (flag .before .before .if1 .left)
-    (cleared .before .before .if2 .taken) (cleared .acknowledged .ensures) (cleared .before .interrupt-vector .ensures) (c .before .before .before .before .before .accept .ensures) (c .timer-part2 .ensures)
+    step-interrupt _ _ (start .pre .1) (start .pre .2) _ (flag .get-flag .ensures) (flag .before .before .if1 .left) (cleared .before .before .if2 .taken)
+    (cleared .acknowledged .ensures) (cleared .before .interrupt-vector .ensures) (c .before .before .before .before .before .accept .ensures) (c .timer-part2 .ensures)
 
 returns-3 : tie.Need-returns-3
 returns-3 c =
     let flag = c .before in
     let start = flag .before .before .before .before .before in
-    step-halted (start .args .cpu) (start .args .inputs) (start .pre .1) (start .pre .2) (flag .get-flag .result) (flag .get-flag .ensures) (flag .before .before .if1 .left)
-    (c .if2 .left) (start .pre .3)
+    step-halted _ _ (start .pre .1) (start .pre .2) _ (flag .get-flag .ensures) (flag .before .before .if1 .left) (c .if2 .left) (start .pre .3)
 
 pub powered-step-spec : {M : Type 1} → statement M
 powered-step-spec =

@@ -8,8 +8,7 @@ use Rattle.execution.proofs.operations.alu.Tie as tie
 returns : tie.Need-returns
 unfolding aluOf
 returns c =
-    let start = c .before .before .before .before .before .before in
-    does-then _ (does-operand (start .args .cpu) (start .args .place) (c .before .before .before .word-at .ensures) (c .before .before .operand .ensures))
+    does-then _ (does-operand _ _ (c .before .before .before .word-at .ensures) (c .before .before .operand .ensures))
     (does-done (rw (c .operate .ensures, c .before .with-p .ensures)))
 
 pub alu-spec : {M : Type 1} → statement M

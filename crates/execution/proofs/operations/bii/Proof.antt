@@ -8,9 +8,7 @@ use Rattle.execution.proofs.operations.bii.Tie as tie
 returns : tie.Need-returns
 unfolding biiOf
 returns c =
-    let located = c .before .before .before .before in
-    let start = located .before .before .before .before in
-    does-then _ (does-locate (start .args .cpu) (start .args .place) (located .before .word-at .ensures) (located .locate .ensures))
+    does-then _ (does-locate _ _ (c .before .before .before .before .before .word-at .ensures) (c .before .before .before .before .locate .ensures))
     (does-then _ (c .before .before .before .read-byte .ensures)
     (does-then _ (c .before .before .cpu-readop .ensures)
     (does-done (rw (c .bit .ensures, c .before .with-p .ensures)))))

@@ -10,13 +10,11 @@ unfolding memoryOf
 returns c =
     let change = c .before .before .before .before .before .before .before .before .before in
     let located = change .before .before .before .before .before .before .before in
-    let start = located .before .before .before .before .before .before in
-    let changed = change .changed .ensures in
-    does-then _ (does-locate (start .args .cpu) (start .args .place) (located .before .before .before .word-at .ensures) (located .locate .ensures))
+    does-then _ (does-locate _ _ (located .before .before .before .word-at .ensures) (located .locate .ensures))
     (does-then _ (change .before .before .before .before .cpu-readop .ensures)
     (does-then _ (change .before .read-byte .ensures)
-    (does-then _ (rw changed at (c .before .before .before .before .before .before .write-byte .ensures))
-    (does-done (rw (c .with-t .ensures, c .before .with-p .ensures, changed))))))
+    (does-then _ (rw (change .changed .ensures) at (c .before .before .before .before .before .before .write-byte .ensures))
+    (does-done (rw (c .with-t .ensures, c .before .with-p .ensures, change .changed .ensures))))))
 
 pub memory-spec : {M : Type 1} → statement M
 memory-spec =

@@ -9,10 +9,8 @@ returns : tie.Need-returns
 unfolding storeOf
 returns c =
     let located = c .before .before .before .before .before .before .before .before in
-    let start = located .before .before .before .before .before .before in
-    does-then _ (does-locate (start .args .cpu) (start .args .place) (located .before .before .before .word-at .ensures) (located .locate .ensures))
-    (does-then _ (c .before .before .before .before .before .write-byte .ensures)
-    (does-done (c .with-p .ensures)))
+    does-then _ (does-locate _ _ (located .before .before .before .word-at .ensures) (located .locate .ensures))
+    (does-then _ (c .before .before .before .before .before .write-byte .ensures) (does-done (c .with-p .ensures)))
 
 pub store-spec : {M : Type 1} → statement M
 store-spec =

@@ -34,29 +34,16 @@ use Rattle.execution.proofs.Choices.{cond-both, cond-true, cond-false}
 use Rattle.execution.proofs.Tests.{reached-same, none-accepted, unheld}
 use Rattle.execution.proofs.DueTest.{due-is}
 
--- LOP, by what its count gave
-module _ (m : Lh5801) (p offset : ℕ) where
-  abbrev pub LoopEnd : Lh5801 → Looped → Type 0
-  LoopEnd r l = r ≡ cond (l .again) (branchedOf (with-u m (l .u)) p offset false) (with-p (with-u m (l .u)) p)
+-- how LOP ends, by what its count gave
+abbrev LoopEnd : Lh5801 → ℕ → ℕ → Lh5801 → Looped → Type 0
+LoopEnd m p offset r l = r ≡ cond (l .again) (branchedOf (with-u m (l .u)) p offset false) (with-p (with-u m (l .u)) p)
 
-  pub loop-again : {l : Looped} {counted r : Lh5801} → l ≡ loopedOf (m .u) → l .again ≡ true → counted ≡ with-u m (l .u) → r ≡ branchedOf counted p offset false
-      → LoopEnd r (loopedOf (m .u))
-  loop-again {l} {counted} {r} looped a c e =
-      subst (LoopEnd r) looped (e ∙ ap (λ (k : Lh5801). branchedOf k p offset false) c ∙ sym (cond-true _ (branchedOf (with-u m (l .u)) p offset false) (with-p (with-u m (l .u)) p) a))
+pub loop-end : (m : Lh5801) (p offset : ℕ) {l : Looped} {r : Lh5801} → l ≡ loopedOf (m .u) → LoopEnd m p offset r l → LoopEnd m p offset r (loopedOf (m .u))
+loop-end m p offset {r = r} = subst (LoopEnd m p offset r)
 
-  pub loop-over : {l : Looped} {counted r : Lh5801} → l ≡ loopedOf (m .u) → l .again ≡ false → counted ≡ with-u m (l .u) → r ≡ with-p counted p
-      → LoopEnd r (loopedOf (m .u))
-  loop-over {l} {counted} {r} looped a c e =
-      subst (LoopEnd r) looped (e ∙ ap (λ (k : Lh5801). with-p k p) c ∙ sym (cond-false _ (branchedOf (with-u m (l .u)) p offset false) (with-p (with-u m (l .u)) p) a))
-
-module _ (m : Lh5801) where
-  pub reached-moves : m .«is_timer_reached» ≡ true → reachedOf m ≡ with-is-timer-reached (with-ir1 m true) false
-  unfolding reachedOf
-  reached-moves e = cond-true _ (with-is-timer-reached (with-ir1 m true) false) m e
-
-  pub reached-stays : m .«is_timer_reached» ≡ false → reachedOf m ≡ m
-  unfolding reachedOf
-  reached-stays e = cond-false _ (with-is-timer-reached (with-ir1 m true) false) m e
+reached-stays : (m : Lh5801) → m .«is_timer_reached» ≡ false → reachedOf m ≡ m
+unfolding reachedOf
+reached-stays m e = cond-false _ (with-is-timer-reached (with-ir1 m true) false) m e
 
 -- timer reached moving to IR1 keeps TM
 pub reached-tm : (m : Lh5801) → reachedOf m .tm ≡ m .tm
@@ -164,19 +151,20 @@ module _ (m : Lh5801) where
 -- where an instruction is due, by what its byte decodes to
 module _ (m : Lh5801) (inputs : Inputs) (ready : Ready m) where
   -- listed: whether it is settled, and whether timer reached is set then, tell whether an instruction is due again
-  pub instruction-listed : {o : Fetched} {l p q : Pages} {i : Instruction} {n : ℕ} {k r : Lh5801} {b t : Bool}
+  pub instruction-listed : {o : Fetched} {l p q : Pages} {i : Instruction} {n : ℕ} {k now r : Lh5801} {b t : Bool}
       → Does (fetchOf (m .p)) l o p
       → decodedBy (o .fd) (o .byte) ≡ Listed i n
       → Does (executeOf (with-p m (o .p)) inputs i) p k q
-      → r ≡ timerPartOf (addStateOf k n)
+      → now ≡ addStateOf k n
+      → r ≡ timerPartOf now
       → settledOf i ≡ b
       → r .«is_timer_reached» ≡ t
       → Does (mapped executedOf (stepOf m inputs)) l (cond (b && not t) (Again r) (CompletedThere r)) q
   unfolding instructionOf decodedStepOf
-  instruction-listed {o = o} {i = i} {n = n} {r = r} f e x z s h =
+  instruction-listed {o = o} {i = i} {n = n} {r = r} f e x y z s h =
       rw (step-due m inputs ready, ← (ap settledBy e ∙ s), ← h)
       (does-mapped executedOf {r = did r (n + addedOf m i) (instruction (o .fd) (o .byte))}
-      (does-then _ f (rw e (does-then _ x (does-done (ap (λ (y : Lh5801). did y (n + addedOf m i) (instruction (o .fd) (o .byte))) z))))))
+      (does-then _ f (rw e (does-then _ x (does-done (ap (λ (k : Lh5801). did k (n + addedOf m i) (instruction (o .fd) (o .byte))) (z ∙ ap timerPartOf y)))))))
 
   pub instruction-unlisted : {o : Fetched} {l p : Pages} {s : Stop}
       → Does (fetchOf (m .p)) l o p

@@ -1,5 +1,4 @@
-use mathlib.Core.Path.{refl, _∙_, ap, sym}
-use Rattle.pages.specs.Timer.{timerPartOf}
+use mathlib.Core.Path.{refl, _∙_, sym}
 use Rattle.execution.proofs.Order.{instruction-listed, instruction-unlisted}
 use Rattle.execution.proofs.DueAgain.{again, executed-small}
 use borrow.Author.Needs.{needs}
@@ -26,8 +25,7 @@ returns c =
     let listed = sym (decoded .decode .ensures) ∙ done .before .before .before .before .before .i .given .1 in
     let executed = rw (done .before .before .before .with-p .ensures) at (done .execute .ensures) in
     let settled = sym (c .before .before .before .before .settled .ensures) ∙ c .before .before .before .if1 .taken in
-    let timed = c .before .timer-part .ensures ∙ ap timerPartOf (c .before .before .add-state .ensures) in
-    (instruction-listed _ _ ready (decoded .before .fetch .ensures) listed executed timed settled (c .if2 .taken), tt)
+    (instruction-listed _ _ ready (decoded .before .fetch .ensures) listed executed (c .before .before .add-state .ensures) (c .before .timer-part .ensures) settled (c .if2 .taken), tt)
 
 returns-2 : tie.Need-returns-2
 returns-2 c =
@@ -39,7 +37,7 @@ returns-2 c =
     let settled = sym (c .before .before .before .before .settled .ensures) ∙ c .before .before .before .if1 .taken in
     let states = c .before .before .add-state .ensures in
     let timed = c .before .timer-part .ensures in (
-      instruction-listed _ _ ready (decoded .before .fetch .ensures) listed executed (timed ∙ ap timerPartOf states) settled (c .if2 .left),
+      instruction-listed _ _ ready (decoded .before .fetch .ensures) listed executed states timed settled (c .if2 .left),
       again _ _ _ _ _ settled ready executed states timed (c .if2 .left),
     )
 
@@ -51,8 +49,7 @@ returns-3 c =
     let listed = sym (decoded .decode .ensures) ∙ done .before .before .before .before .before .i .given .1 in
     let executed = rw (done .before .before .before .with-p .ensures) at (done .execute .ensures) in
     let settled = sym (c .before .before .before .settled .ensures) ∙ c .before .before .if1 .left in
-    let timed = c .timer-part2 .ensures ∙ ap timerPartOf (c .before .add-state2 .ensures) in
-    (instruction-listed _ _ ready (decoded .before .fetch .ensures) listed executed timed settled refl, tt)
+    (instruction-listed _ _ ready (decoded .before .fetch .ensures) listed executed (c .before .add-state2 .ensures) (c .timer-part2 .ensures) settled refl, tt)
 
 returns-4 : tie.Need-returns-4
 returns-4 c =

@@ -43,7 +43,7 @@ loop-end m p offset {r = r} = subst (LoopEnd m p offset r)
 
 reached-stays : (m : Lh5801) → m .«is_timer_reached» ≡ false → reachedOf m ≡ m
 unfolding reachedOf
-reached-stays m e = cond-false _ (with-is-timer-reached (with-ir1 m true) false) m e
+reached-stays m e = cond-false _ _ _ e
 
 -- timer reached moving to IR1 keeps TM
 pub reached-tm : (m : Lh5801) → reachedOf m .tm ≡ m .tm
@@ -73,8 +73,7 @@ module _ {A B : Type 0} (f : B → ℕ → A) (a d : A) (x y : B) where
 module _ (m : Lh5801) (inputs : Inputs) (on : m .bf ≡ true) (clear : m .«is_timer_reached» ≡ false) where
   step-powered : stepOf m inputs ≡ poweredOf m inputs
   unfolding stepOf
-  step-powered =
-      cond-true _ (poweredOf (reachedOf m) inputs) (done (did (addStateOf m 8) 8 off)) on ∙ ap (λ (k : Lh5801). poweredOf k inputs) (reached-stays m clear)
+  step-powered = cond-true _ _ _ on ∙ ap (λ (k : Lh5801). poweredOf k inputs) (reached-stays m clear)
 
   pub step-held : {p : Pages} {r : Lh5801} → m .ir0 ≡ true → r ≡ timerPartOf m → Does (mapped outcomeOf (stepOf m inputs)) p (Completed r) p
   unfolding poweredOf
@@ -91,7 +90,7 @@ module _ (m : Lh5801) (inputs : Inputs) (on : m .bf ≡ true) (clear : m .«is_t
         → Does (mapped outcomeOf (stepOf m inputs)) p (Completed r) q
     unfolding poweredOf interruptOf
     step-interrupt {r = r} {vector = vector} b u v d f =
-        rw (step-powered, ← enabled, some-request interruptOf (done (did (timerPartOf m) 0 held)) (cond (m .«is_halted») (done (stopped Halted)) (instructionOf m inputs)) (with-ir1 m false) (with-ir2 m false) (m .ir0) (m .ir1) (m .ir2) e free b, ← u, ← v)
+        rw (step-powered, ← enabled, some-request interruptOf _ _ _ _ (m .ir0) (m .ir1) (m .ir2) e free b, ← u, ← v)
         (does-mapped outcomeOf {r = did r 0 (interrupt vector)} (does-then _ d (does-done (ap (λ (x : Lh5801). did x 0 (interrupt vector)) f))))
 
     pub step-halted : {p : Pages} → ((m .ir1 || m .ir2) && e) ≡ false → dueOf m ≡ false → Does (mapped outcomeOf (stepOf m inputs)) p (Stopped Halted) p
@@ -105,7 +104,7 @@ pub step-due : (m : Lh5801) (inputs : Inputs) → Ready m → stepOf m inputs �
 step-due m inputs h =
     let d = due-is m .0 (h .due) in
     unheld m inputs (d .on) (d .free) (d .none)
-    ∙ cond-false _ (done (stopped Halted)) (instructionOf (reachedOf m) inputs) (d .running)
+    ∙ cond-false _ _ _ (d .running)
     ∙ ap (λ (k : Lh5801). instructionOf k inputs) (reached-stays m (h .clear))
 
 -- timer reached moved to IR1: the same step, and an instruction is due or not as before
@@ -145,8 +144,7 @@ module _ (m : Lh5801) where
   pub step-reached : (inputs : Inputs) → m .bf ≡ true → stepOf (reachedOf m) inputs ≡ stepOf m inputs
   unfolding stepOf
   step-reached inputs on =
-      step-powered (reachedOf m) inputs (reached-bf ∙ on) reached-clear
-      ∙ sym (cond-true _ (poweredOf (reachedOf m) inputs) (done (did (addStateOf m 8) 8 off)) on)
+      step-powered (reachedOf m) inputs (reached-bf ∙ on) reached-clear ∙ sym (cond-true _ _ _ on)
 
 -- where an instruction is due, by what its byte decodes to
 module _ (m : Lh5801) (inputs : Inputs) (ready : Ready m) where

@@ -41,6 +41,7 @@ LoopEnd m p offset r l = r ≡ cond (l .again) (branchedOf (with-u m (l .u)) p o
 pub loop-end : (m : Lh5801) (p offset : ℕ) {l : Looped} {r : Lh5801} → l ≡ loopedOf (m .u) → LoopEnd m p offset r l → LoopEnd m p offset r (loopedOf (m .u))
 loop-end m p offset {r = r} = subst (LoopEnd m p offset r)
 
+-- with timer reached clear nothing moves to IR1
 reached-stays : (m : Lh5801) → m .«is_timer_reached» ≡ false → reachedOf m ≡ m
 unfolding reachedOf
 reached-stays m e = cond-false _ _ _ e

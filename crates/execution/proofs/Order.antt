@@ -101,7 +101,7 @@ module _ (m : Lh5801) (inputs : Inputs) (on : m .bf ≡ true) (clear : m .«is_t
         rw (unheld m inputs on free none, halted) (does-mapped outcomeOf {r = stopped Halted} (does-done refl))
 
 -- where an instruction is due, the step is that instruction's
-pub step-due : (m : Lh5801) (inputs : Inputs) → Ready m → stepOf m inputs ≡ instructionOf m inputs
+step-due : (m : Lh5801) (inputs : Inputs) → Ready m → stepOf m inputs ≡ instructionOf m inputs
 step-due m inputs h =
     let d = due-is m .0 (h .due) in
     unheld m inputs (d .on) (d .free) (d .none)

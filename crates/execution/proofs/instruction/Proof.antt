@@ -1,21 +1,18 @@
-use mathlib.Core.Path.{refl, _∙_, sym}
+use Prim.Native.Nat.{ℕ, _<_}
+use mathlib.Core.Path.{_≡_, refl, _∙_, sym}
+use Rattle.arithmetic.specs.declared.record.Lh5801.{Lh5801}
+use Rattle.pages.specs.Timer.{addStateOf}
 use Rattle.execution.proofs.Order.{instruction-listed, instruction-unlisted}
 use Rattle.execution.proofs.DueAgain.{again, executed-small}
 use borrow.Author.Needs.{needs}
 use Rattle.execution.proofs.instruction.Statement.{statement}
 use Rattle.execution.proofs.instruction.Tie as tie
 
-timer-part-requires : tie.Need-timer-part-requires
-timer-part-requires c κs =
-    let done = c .before .before .before .before .before .before .before in
+-- TM is at most 511 after the instruction and its states
+states-small : (done : tie.After-execute) (n : ℕ) {now : Lh5801} → now ≡ addStateOf (done .execute .result) n → now .tm < 512
+states-small done n =
     let decoded = done .before .before .before .before .before .before .before in
-    executed-small _ _ _ _ _ (decoded .before .before .before .before .before .before .pre .0) (rw (done .before .before .before .with-p .ensures) at (done .execute .ensures)) (c .add-state .ensures)
-
-timer-part-requires-2 : tie.Need-timer-part-requires-2
-timer-part-requires-2 c κs =
-    let done = c .before .before .before .before .before .before .before in
-    let decoded = done .before .before .before .before .before .before .before in
-    executed-small _ _ _ _ _ (decoded .before .before .before .before .before .before .pre .0) (rw (done .before .before .before .with-p .ensures) at (done .execute .ensures)) (c .add-state2 .ensures)
+    executed-small _ _ _ _ n (decoded .before .before .before .before .before .before .pre .0) (rw (done .before .before .before .with-p .ensures) at (done .execute .ensures))
 
 returns : tie.Need-returns
 returns c =
@@ -61,6 +58,7 @@ pub instruction-spec : {M : Type 1} → statement M
 instruction-spec =
     tie.close
     (tie.spec (λ c κs. search needs) (λ c κs. search needs) (λ c. search needs) (λ c κs. search needs) (λ c κs. search needs) (λ c κs. search needs)
-    (λ c κs. search needs) timer-part-requires (λ c κs. search needs) timer-part-requires-2 (λ c. search needs) (λ c κs. search needs)
+    (λ c κs. search needs) (λ c κs. states-small (c .before .before .before .before .before .before .before) _ (c .add-state .ensures)) (λ c κs. search needs)
+    (λ c κs. states-small (c .before .before .before .before .before .before .before) _ (c .add-state2 .ensures)) (λ c. search needs) (λ c κs. search needs)
     (λ c. search needs) (λ c. search needs) returns (λ c. search needs) (λ c. search needs) returns-2
     (λ c. search needs) (λ c. search needs) returns-3 (λ c. search needs) (λ c. search needs) returns-4)

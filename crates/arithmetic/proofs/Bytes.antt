@@ -11,6 +11,10 @@ use Rattle.arithmetic.specs.Shifts.{loopedOf}
 use Rattle.arithmetic.specs.declared.Looped.{Looped}
 use Rattle.arithmetic.proofs.Compute.{every, at}
 
+-- a byte, cut to a byte
+pub byte-cut : {b : ℕ} → b < 256 → b ≡ b % 256
+byte-cut h = omega arith
+
 -- twice a byte, cut to a byte
 pub doubled : (b : ℕ) → b % 128 * 2 ≡ b * 2 % 256
 doubled b = omega arith

@@ -5,52 +5,41 @@ use mathlib.Core.Logic.{_↔_}
 use Rattle.arithmetic.specs.declared.record.Lh5801.{Lh5801}
 use Rattle.arithmetic.specs.Flags.{IE, hasFlag}
 use Rattle.execution.specs.Conditions.{Due}
-use Rattle.execution.specs.Code.Due.{dueBy, dueOf}
+use Rattle.execution.specs.Code.Due.{dueOf}
 
--- the four parts of `Due`
-abbrev Parts : Bool → Bool → Bool → Bool → Bool → Bool → Bool → Type 0
-Parts bf ir0 ir1 r ir2 e h = (bf ≡ true) × (ir0 ≡ false) × (bf && not ir0 && e && (ir1 || r || ir2) ≡ false) × (h ≡ false)
+-- the four parts of `Due`, with `l` for the lines of which one requests
+abbrev Parts : Bool → Bool → Bool → Bool → Bool → Type 0
+Parts bf ir0 l e h = (bf ≡ true) × (ir0 ≡ false) × (bf && not ir0 && e && l ≡ false) × (h ≡ false)
 
-tested : (bf ir0 ir1 r ir2 e h : Bool) → dueBy bf ir0 ir1 r ir2 e h ≡ true → Parts bf ir0 ir1 r ir2 e h
-tested false ir0 ir1 r ir2 e h t = absurd (false≢true t)
-tested true true ir1 r ir2 e h t = absurd (false≢true t)
-tested true false true r ir2 true h t = absurd (false≢true t)
-tested true false true r ir2 false true t = absurd (false≢true t)
-tested true false true r ir2 false false t = (refl, refl, refl, refl)
-tested true false false true ir2 true h t = absurd (false≢true t)
-tested true false false true ir2 false true t = absurd (false≢true t)
-tested true false false true ir2 false false t = (refl, refl, refl, refl)
-tested true false false false true true h t = absurd (false≢true t)
-tested true false false false true false true t = absurd (false≢true t)
-tested true false false false true false false t = (refl, refl, refl, refl)
-tested true false false false false e true t = absurd (false≢true t)
-tested true false false false false true false t = (refl, refl, refl, refl)
-tested true false false false false false false t = (refl, refl, refl, refl)
+tested : (bf ir0 l e h : Bool) → bf && not (ir0 || l && e || h) ≡ true → Parts bf ir0 l e h
+tested false ir0 l e h t = absurd (false≢true t)
+tested true true l e h t = absurd (false≢true t)
+tested true false true true h t = absurd (false≢true t)
+tested true false true false true t = absurd (false≢true t)
+tested true false true false false t = (refl, refl, refl, refl)
+tested true false false e true t = absurd (false≢true t)
+tested true false false true false t = (refl, refl, refl, refl)
+tested true false false false false t = (refl, refl, refl, refl)
 
-due-by : (bf ir0 ir1 r ir2 e h : Bool) → bf ≡ true → ir0 ≡ false → bf && not ir0 && e && (ir1 || r || ir2) ≡ false → h ≡ false
-    → dueBy bf ir0 ir1 r ir2 e h ≡ true
-due-by false ir0 ir1 r ir2 e h b z n g = absurd (false≢true b)
-due-by true true ir1 r ir2 e h b z n g = absurd (true≢false z)
-due-by true false ir1 r ir2 e true b z n g = absurd (true≢false g)
-due-by true false true r ir2 true false b z n g = absurd (true≢false n)
-due-by true false true r ir2 false false b z n g = refl
-due-by true false false true ir2 true false b z n g = absurd (true≢false n)
-due-by true false false true ir2 false false b z n g = refl
-due-by true false false false true true false b z n g = absurd (true≢false n)
-due-by true false false false true false false b z n g = refl
-due-by true false false false false e false b z n g = refl
+due-by : (bf ir0 l e h : Bool) → bf ≡ true → ir0 ≡ false → bf && not ir0 && e && l ≡ false → h ≡ false → bf && not (ir0 || l && e || h) ≡ true
+due-by false ir0 l e h b z n g = absurd (false≢true b)
+due-by true true l e h b z n g = absurd (true≢false z)
+due-by true false l e true b z n g = absurd (true≢false g)
+due-by true false true true false b z n g = absurd (true≢false n)
+due-by true false true false false b z n g = refl
+due-by true false false e false b z n g = refl
 
 module _ (m : Lh5801) where
   due-holds : dueOf m ≡ true → Due m
   due-holds t =
-      let p = tested (m .bf) (m .ir0) (m .ir1) (m .«is_timer_reached») (m .ir2) (hasFlag (m .t) IE) (m .«is_halted») t in
+      let p = tested (m .bf) (m .ir0) (m .ir1 || m .«is_timer_reached» || m .ir2) (hasFlag (m .t) IE) (m .«is_halted») t in
       record { on = p .0; free = p .1; none = p .2; running = p .3 }
 
   -- the test passes exactly where an instruction is due
   pub due-is : (dueOf m ≡ true) ↔ Due m
   due-is = (
     due-holds,
-    λ d. due-by (m .bf) (m .ir0) (m .ir1) (m .«is_timer_reached») (m .ir2) (hasFlag (m .t) IE) (m .«is_halted») (d .on) (d .free) (d .none) (d .running),
+    λ d. due-by (m .bf) (m .ir0) (m .ir1 || m .«is_timer_reached» || m .ir2) (hasFlag (m .t) IE) (m .«is_halted») (d .on) (d .free) (d .none) (d .running),
   )
 
   -- and then BF is set

@@ -6,7 +6,7 @@ use native.Mathlib.Omega.{arith}
 use types.Run.{OneOf}
 use denote.Enum.Declared.{tagOf}
 use Rattle.execution.proofs.places.Register.{the-type}
-use Prim.Native.Nat.{ℕ, _<_, _%_}
+use Prim.Native.Nat.{ℕ}
 use Rattle.arithmetic.specs.declared.record.Lh5801.{Lh5801}
 use Rattle.arithmetic.specs.Record.{with-x, with-y, with-u}
 use Rattle.arithmetic.proofs.Status.{only-x, only-y, only-u}
@@ -76,7 +76,3 @@ pub does-operand : (m : Lh5801) (place : Place) {w : ℕ} {l n : Pages} {r : Cod
     → Does (operandAt w (m .p) place) l r n
     → Does (operandOf m place) l r n
 does-operand m place e d = rw (operand-at m place) at (rw e at d)
-
--- a byte is its own remainder
-pub byte-of-tm : {a : ℕ} → a < 256 → a ≡ a % 256
-byte-of-tm h = omega arith

@@ -1,6 +1,6 @@
 -- The code's way through a step is the definition's: one test tells whether an instruction is due.
 use Prim.Native.Nat.{ℕ, _+_}
-use mathlib.Core.Bool.{Bool, true, false, not, _&&_, _||_, cond, true≢false, false≢true}
+use mathlib.Core.Bool.{Bool, true, false, not, _&&_, _||_, cond, true≢false, not-eq-not}
 use mathlib.Core.Path.{_≡_, refl, sym, ap, subst, _∙_}
 use Rattle.arithmetic.specs.declared.record.Lh5801.{Lh5801}
 use Rattle.execution.specs.declared.Inputs.{Inputs}
@@ -16,7 +16,6 @@ use Rattle.pages.specs.Stack.{acceptOf}
 use Rattle.pages.specs.Timer.{addStateOf, timerPartOf}
 use Rattle.pages.proofs.Does.{does-then, does-done, does-mapped, does-through}
 use Rattle.execution.specs.declared.instructions.Instruction.{Instruction}
-use Rattle.execution.specs.declared.instructions.Decoded.{Decoded}
 use Rattle.execution.specs.declared.instructions.Decoded.the-variants.{Listed, Unlisted}
 use Rattle.execution.specs.declared.Executed.{Executed}
 use Rattle.execution.specs.declared.Executed.the-variants.{Again, Completed as CompletedThere, Stopped as StoppedThere}
@@ -29,35 +28,23 @@ use Rattle.execution.specs.Instructions.{branchedOf, executeOf}
 use Rattle.execution.specs.States.{addedOf}
 use Rattle.execution.specs.Step.{off, held, interrupt, instruction, StepEnd, did, stopped, fetchOf, decodedBy, unlistedBy, decodedStepOf, instructionOf, interruptOf, reachedOf, poweredOf, stepOf}
 use Rattle.execution.specs.Code.Outcomes.{outcomeOf}
-use Rattle.execution.specs.Code.Due.{dueBy, dueOf, Ready, settledOf, settledBy, executedAs, executedOf}
+use Rattle.execution.specs.Code.Due.{dueBy, dueOf, Ready, settledOf, settledBy, executedOf}
 use Rattle.execution.proofs.Effects.{dueIn}
 use Rattle.execution.proofs.Choices.{cond-both, cond-true, cond-false}
-use Rattle.execution.proofs.Tests.{reached-same, unheld}
+use Rattle.execution.proofs.Tests.{reached-same, none-accepted, unheld}
 use Rattle.execution.proofs.DueTest.{due-is}
 
--- LOP, by what its count gave
-module _ (m : Lh5801) (p offset : ℕ) where
-  abbrev pub LoopEnd : Lh5801 → Looped → Type 0
-  LoopEnd r l = r ≡ cond (l .again) (branchedOf (with-u m (l .u)) p offset false) (with-p (with-u m (l .u)) p)
+-- how LOP ends, by what its count gave
+abbrev LoopEnd : Lh5801 → ℕ → ℕ → Lh5801 → Looped → Type 0
+LoopEnd m p offset r l = r ≡ cond (l .again) (branchedOf (with-u m (l .u)) p offset false) (with-p (with-u m (l .u)) p)
 
-  pub loop-again : {l : Looped} {counted r : Lh5801} → l ≡ loopedOf (m .u) → l .again ≡ true → counted ≡ with-u m (l .u) → r ≡ branchedOf counted p offset false
-      → LoopEnd r (loopedOf (m .u))
-  loop-again {l} {counted} {r} looped a c e =
-      subst (LoopEnd r) looped (e ∙ ap (λ (k : Lh5801). branchedOf k p offset false) c ∙ sym (cond-true _ (branchedOf (with-u m (l .u)) p offset false) (with-p (with-u m (l .u)) p) a))
+pub loop-end : (m : Lh5801) (p offset : ℕ) {l : Looped} {r : Lh5801} → l ≡ loopedOf (m .u) → LoopEnd m p offset r l → LoopEnd m p offset r (loopedOf (m .u))
+loop-end m p offset {r = r} = subst (LoopEnd m p offset r)
 
-  pub loop-over : {l : Looped} {counted r : Lh5801} → l ≡ loopedOf (m .u) → l .again ≡ false → counted ≡ with-u m (l .u) → r ≡ with-p counted p
-      → LoopEnd r (loopedOf (m .u))
-  loop-over {l} {counted} {r} looped a c e =
-      subst (LoopEnd r) looped (e ∙ ap (λ (k : Lh5801). with-p k p) c ∙ sym (cond-false _ (branchedOf (with-u m (l .u)) p offset false) (with-p (with-u m (l .u)) p) a))
-
-module _ (m : Lh5801) where
-  pub reached-moves : m .«is_timer_reached» ≡ true → reachedOf m ≡ with-is-timer-reached (with-ir1 m true) false
-  unfolding reachedOf
-  reached-moves e = cond-true _ (with-is-timer-reached (with-ir1 m true) false) m e
-
-  pub reached-stays : m .«is_timer_reached» ≡ false → reachedOf m ≡ m
-  unfolding reachedOf
-  reached-stays e = cond-false _ (with-is-timer-reached (with-ir1 m true) false) m e
+-- with timer reached clear nothing moves to IR1
+reached-stays : (m : Lh5801) → m .«is_timer_reached» ≡ false → reachedOf m ≡ m
+unfolding reachedOf
+reached-stays m e = cond-false _ _ _ e
 
 -- timer reached moving to IR1 keeps TM
 pub reached-tm : (m : Lh5801) → reachedOf m .tm ≡ m .tm
@@ -67,25 +54,12 @@ reached-tm m = reached-same m (λ k. k .tm) (ap (λ (s : Status). s .tm) (reques
 pub acknowledged-tm : (m : Lh5801) → cond (m .ir1) (with-ir1 m false) (with-ir2 m false) .tm ≡ m .tm
 acknowledged-tm m = cond-both (λ (k : Lh5801). k .tm ≡ m .tm) (m .ir1) _ _ (times-ir1 m false .tm) (times-ir2 m false .tm)
 
--- the test for an instruction does not pass, BF is set and nothing else holds: halted
-test-halted : (bf ir0 ir1 r ir2 e h : Bool) → dueBy bf ir0 ir1 r ir2 e h ≡ false → bf ≡ true → r ≡ false → ir0 ≡ false → ((ir1 || ir2) && e) ≡ false
-    → h ≡ true
-test-halted false ir0 ir1 r ir2 e h t b z i n = absurd (false≢true b)
-test-halted true true ir1 r ir2 e h t b z i n = absurd (true≢false i)
-test-halted true false ir1 true ir2 e h t b z i n = absurd (true≢false z)
-test-halted true false ir1 false ir2 e true t b z i n = refl
-test-halted true false true false ir2 true false t b z i n = absurd (true≢false n)
-test-halted true false true false ir2 false false t b z i n = absurd (true≢false t)
-test-halted true false false false true true false t b z i n = absurd (true≢false n)
-test-halted true false false false true false false t b z i n = absurd (true≢false t)
-test-halted true false false false false e false t b z i n = absurd (true≢false t)
-
 -- timer reached moving to IR1 does not change the test
 test-moved : (bf ir0 ir1 ir2 e h : Bool) → dueBy bf ir0 true false ir2 e h ≡ dueBy bf ir0 ir1 true ir2 e h
 test-moved bf ir0 true ir2 e h = refl
 test-moved bf ir0 false ir2 e h = refl
 
--- a step in which no instruction is due, by its tests: an enabled request is accepted, IR1 before IR2, or none is
+-- an enabled request is accepted, IR1 before IR2
 module _ {A B : Type 0} (f : B → ℕ → A) (a d : A) (x y : B) where
   some-request : (ir0 ir1 ir2 e : Bool) → ir0 ≡ false → ((ir1 || ir2) && e) ≡ true
       → cond ir0 a (cond (ir1 && e) (f x 0xFFFA) (cond (ir2 && e) (f y 0xFFF8) d)) ≡ f (cond ir1 x y) (cond ir1 0xFFFA 0xFFF8)
@@ -96,22 +70,11 @@ module _ {A B : Type 0} (f : B → ℕ → A) (a d : A) (x y : B) where
   some-request false false true false z t = cc
   some-request false false false e z t = cc
 
-  no-request : (ir0 ir1 ir2 e : Bool) → ir0 ≡ false → ((ir1 || ir2) && e) ≡ false
-      → cond ir0 a (cond (ir1 && e) (f x 0xFFFA) (cond (ir2 && e) (f y 0xFFF8) d)) ≡ d
-  no-request true ir1 ir2 e z t = cc
-  no-request false true ir2 true z t = cc
-  no-request false true true false z t = refl
-  no-request false true false false z t = refl
-  no-request false false true true z t = cc
-  no-request false false true false z t = refl
-  no-request false false false e z t = refl
-
 -- a step with BF set, by what is tested; timer reached is clear
 module _ (m : Lh5801) (inputs : Inputs) (on : m .bf ≡ true) (clear : m .«is_timer_reached» ≡ false) where
   step-powered : stepOf m inputs ≡ poweredOf m inputs
   unfolding stepOf
-  step-powered =
-      cond-true _ (poweredOf (reachedOf m) inputs) (done (did (addStateOf m 8) 8 off)) on ∙ ap (λ (k : Lh5801). poweredOf k inputs) (reached-stays m clear)
+  step-powered = cond-true _ _ _ on ∙ ap (λ (k : Lh5801). poweredOf k inputs) (reached-stays m clear)
 
   pub step-held : {p : Pages} {r : Lh5801} → m .ir0 ≡ true → r ≡ timerPartOf m → Does (mapped outcomeOf (stepOf m inputs)) p (Completed r) p
   unfolding poweredOf
@@ -128,22 +91,21 @@ module _ (m : Lh5801) (inputs : Inputs) (on : m .bf ≡ true) (clear : m .«is_t
         → Does (mapped outcomeOf (stepOf m inputs)) p (Completed r) q
     unfolding poweredOf interruptOf
     step-interrupt {r = r} {vector = vector} b u v d f =
-        rw (step-powered, ← enabled, some-request interruptOf (done (did (timerPartOf m) 0 held)) (cond (m .«is_halted») (done (stopped Halted)) (instructionOf m inputs)) (with-ir1 m false) (with-ir2 m false) (m .ir0) (m .ir1) (m .ir2) e free b, ← u, ← v)
+        rw (step-powered, ← enabled, some-request interruptOf _ _ _ _ (m .ir0) (m .ir1) (m .ir2) e free b, ← u, ← v)
         (does-mapped outcomeOf {r = did r 0 (interrupt vector)} (does-then _ d (does-done (ap (λ (x : Lh5801). did x 0 (interrupt vector)) f))))
 
     pub step-halted : {p : Pages} → ((m .ir1 || m .ir2) && e) ≡ false → dueOf m ≡ false → Does (mapped outcomeOf (stepOf m inputs)) p (Stopped Halted) p
-    unfolding poweredOf
     step-halted b n =
-        let h : m .«is_halted» ≡ true = test-halted (m .bf) (m .ir0) (m .ir1) (m .«is_timer_reached») (m .ir2) (hasFlag (m .t) IE) (m .«is_halted») n on clear free (rw (← enabled) b) in
-        rw (step-powered, ← enabled, no-request interruptOf (done (did (timerPartOf m) 0 held)) (cond (m .«is_halted») (done (stopped Halted)) (instructionOf m inputs)) (with-ir1 m false) (with-ir2 m false) (m .ir0) (m .ir1) (m .ir2) e free b, cond-true _ (done (stopped Halted)) (instructionOf m inputs) h)
-        (does-mapped outcomeOf {r = stopped Halted} (does-done refl))
+        let none = none-accepted m on free clear (rw enabled at b) in
+        let halted : m .«is_halted» ≡ true = not-eq-not .0 (λ g. true≢false (sym (due-is m .1 (record { on = on; free = free; none = none; running = g })) ∙ n)) in
+        rw (unheld m inputs on free none, halted) (does-mapped outcomeOf {r = stopped Halted} (does-done refl))
 
 -- where an instruction is due, the step is that instruction's
-pub step-due : (m : Lh5801) (inputs : Inputs) → Ready m → stepOf m inputs ≡ instructionOf m inputs
+step-due : (m : Lh5801) (inputs : Inputs) → Ready m → stepOf m inputs ≡ instructionOf m inputs
 step-due m inputs h =
     let d = due-is m .0 (h .due) in
     unheld m inputs (d .on) (d .free) (d .none)
-    ∙ cond-false _ (done (stopped Halted)) (instructionOf (reachedOf m) inputs) (d .running)
+    ∙ cond-false _ _ _ (d .running)
     ∙ ap (λ (k : Lh5801). instructionOf k inputs) (reached-stays m (h .clear))
 
 -- timer reached moved to IR1: the same step, and an instruction is due or not as before
@@ -183,63 +145,34 @@ module _ (m : Lh5801) where
   pub step-reached : (inputs : Inputs) → m .bf ≡ true → stepOf (reachedOf m) inputs ≡ stepOf m inputs
   unfolding stepOf
   step-reached inputs on =
-      step-powered (reachedOf m) inputs (reached-bf ∙ on) reached-clear
-      ∙ sym (cond-true _ (poweredOf (reachedOf m) inputs) (done (did (addStateOf m 8) 8 off)) on)
+      step-powered (reachedOf m) inputs (reached-bf ∙ on) reached-clear ∙ sym (cond-true _ _ _ on)
 
--- how the step of an instruction ends, by what the code asks of it
-executed-again : (fd : Bool) (byte : ℕ) (m : Lh5801) {i : Instruction} {n : ℕ} {b r : Bool} → decodedBy fd byte ≡ Listed i n → settledOf i ≡ b → m .«is_timer_reached» ≡ r
-    → cond (b && not r) (Again m) (CompletedThere m) ≡ executedAs (instruction fd byte) m
-executed-again fd byte m {i} {n} {b} {r} e s t =
-    sym (ap (λ (d : Decoded). cond (settledBy d && not (m .«is_timer_reached»)) (Again m) (CompletedThere m)) e
-    ∙ ap (λ (k : Bool). cond (k && not (m .«is_timer_reached»)) (Again m) (CompletedThere m)) s
-    ∙ ap (λ (k : Bool). cond (b && not k) (Again m) (CompletedThere m)) t)
-
-executed-over : (fd : Bool) (byte : ℕ) (m : Lh5801) {i : Instruction} {n : ℕ} → decodedBy fd byte ≡ Listed i n → settledOf i ≡ false
-    → CompletedThere m ≡ executedAs (instruction fd byte) m
-executed-over fd byte m e s = executed-again fd byte m e s refl
-
--- an instruction, by what its byte decodes to
-module _ (m : Lh5801) (inputs : Inputs) where
-  instruction-did : {o : Fetched} {l p q : Pages} {i : Instruction} {n : ℕ} {k r : Lh5801} {x : Executed}
+-- where an instruction is due, by what its byte decodes to
+module _ (m : Lh5801) (inputs : Inputs) (ready : Ready m) where
+  -- listed: whether it is settled, and whether timer reached is set then, tell whether an instruction is due again
+  pub instruction-listed : {o : Fetched} {l p q : Pages} {i : Instruction} {n : ℕ} {k now r : Lh5801} {b t : Bool}
       → Does (fetchOf (m .p)) l o p
       → decodedBy (o .fd) (o .byte) ≡ Listed i n
       → Does (executeOf (with-p m (o .p)) inputs i) p k q
-      → r ≡ timerPartOf (addStateOf k n)
-      → x ≡ executedAs (instruction (o .fd) (o .byte)) r
-      → Does (mapped executedOf (instructionOf m inputs)) l x q
+      → now ≡ addStateOf k n
+      → r ≡ timerPartOf now
+      → settledOf i ≡ b
+      → r .«is_timer_reached» ≡ t
+      → Does (mapped executedOf (stepOf m inputs)) l (cond (b && not t) (Again r) (CompletedThere r)) q
   unfolding instructionOf decodedStepOf
-  instruction-did {o = o} {i = i} {n = n} {r = r} f e x t y =
-      rw y
+  instruction-listed {o = o} {i = i} {n = n} {r = r} f e x y z s h =
+      rw (step-due m inputs ready, ← (ap settledBy e ∙ s), ← h)
       (does-mapped executedOf {r = did r (n + addedOf m i) (instruction (o .fd) (o .byte))}
-      (does-then _ f (rw e (does-then _ x (does-done (ap (λ (y : Lh5801). did y (n + addedOf m i) (instruction (o .fd) (o .byte))) t))))))
-
-  -- a settled instruction, and one that is not
-  pub instruction-settled : {o : Fetched} {l p q : Pages} {i : Instruction} {n : ℕ} {k r : Lh5801} (b : Bool)
-      → Does (fetchOf (m .p)) l o p
-      → decodedBy (o .fd) (o .byte) ≡ Listed i n
-      → Does (executeOf (with-p m (o .p)) inputs i) p k q
-      → r ≡ timerPartOf (addStateOf k n)
-      → settledOf i ≡ true
-      → r .«is_timer_reached» ≡ b
-      → Does (mapped executedOf (instructionOf m inputs)) l (cond (not b) (Again r) (CompletedThere r)) q
-  instruction-settled {o = o} {r = r} b f e x t s h = instruction-did f e x t (executed-again (o .fd) (o .byte) r e s h)
-
-  pub instruction-other : {o : Fetched} {l p q : Pages} {i : Instruction} {n : ℕ} {k r : Lh5801}
-      → Does (fetchOf (m .p)) l o p
-      → decodedBy (o .fd) (o .byte) ≡ Listed i n
-      → Does (executeOf (with-p m (o .p)) inputs i) p k q
-      → r ≡ timerPartOf (addStateOf k n)
-      → settledOf i ≡ false
-      → Does (mapped executedOf (instructionOf m inputs)) l (CompletedThere r) q
-  instruction-other {o = o} {r = r} f e x t s = instruction-did f e x t (executed-over (o .fd) (o .byte) r e s)
+      (does-then _ f (rw e (does-then _ x (does-done (ap (λ (k : Lh5801). did k (n + addedOf m i) (instruction (o .fd) (o .byte))) (z ∙ ap timerPartOf y)))))))
 
   pub instruction-unlisted : {o : Fetched} {l p : Pages} {s : Stop}
       → Does (fetchOf (m .p)) l o p
       → decodedBy (o .fd) (o .byte) ≡ Unlisted
       → s ≡ unlistedBy (o .fd) (o .byte)
-      → Does (mapped executedOf (instructionOf m inputs)) l (StoppedThere s) p
+      → Does (mapped executedOf (stepOf m inputs)) l (StoppedThere s) p
   unfolding instructionOf decodedStepOf
-  instruction-unlisted {s = s} f e t = does-mapped executedOf {r = stopped s} (does-then _ f (rw e (does-done (ap stopped t))))
+  instruction-unlisted {s = s} f e t =
+      rw (step-due m inputs ready) (does-mapped executedOf {r = stopped s} (does-then _ f (rw e (does-done (ap stopped t)))))
 
 -- the same without the word that an instruction is due again
 abbrev outcomeIn : Executed → Outcome
@@ -247,15 +180,11 @@ outcomeIn (Again m) = Completed m
 outcomeIn (CompletedThere m) = Completed m
 outcomeIn (StoppedThere s) = Stopped s
 
-either-completed : (b : Bool) (m : Lh5801) → outcomeIn (cond b (Again m) (CompletedThere m)) ≡ Completed m
-either-completed true m = refl
-either-completed false m = refl
-
 executed-outcome : (e : StepEnd) → outcomeIn (executedOf e) ≡ outcomeOf e
 executed-outcome (did m states off) = refl
 executed-outcome (did m states held) = refl
 executed-outcome (did m states (interrupt vector)) = refl
-executed-outcome (did m states (instruction fd byte)) = either-completed (settledBy (decodedBy fd byte) && not (m .«is_timer_reached»)) m
+executed-outcome (did m states (instruction fd byte)) = cond-both (λ x. outcomeIn x ≡ Completed m) (settledBy (decodedBy fd byte) && not (m .«is_timer_reached»)) _ _ refl refl
 executed-outcome (stopped s) = refl
 
 pub executed-step : (m : Lh5801) (inputs : Inputs) {p q : Pages} {r : Executed} → Does (mapped executedOf (stepOf m inputs)) p r q

@@ -1,6 +1,6 @@
 -- What a step does by BF, IR0, the interrupts and halted.
 use mathlib.Core.Path.{_≡_, refl, sym, ap, subst, _∙_}
-use mathlib.Core.Bool.{Bool, true, false, not, _&&_, _||_, cond, false≢true}
+use mathlib.Core.Bool.{Bool, true, false, not, _&&_, _||_, cond, false≢true, or-true, or-false, and-comm, and-or-distrib-right}
 use Rattle.arithmetic.specs.declared.record.Lh5801.{Lh5801}
 use Rattle.execution.specs.declared.Inputs.{Inputs}
 use Rattle.arithmetic.specs.Record.{with-ir1, with-ir2}
@@ -15,21 +15,9 @@ use Rattle.execution.proofs.Choices.{none-left, none-right, cond-both, 
 use Rattle.execution.proofs.Ways.{moved}
 use Rattle.execution.proofs.StopsClean.{IsDid, did-interrupt}
 
--- IE with any of three lines, as a step tests it
-either-line : (e i t j : Bool) → e && (i || t || j) ≡ (i || t) && e || j && e
-either-line true true t j = refl
-either-line true false true j = refl
-either-line true false false true = refl
-either-line true false false false = refl
-either-line false true t true = refl
-either-line false true t false = refl
-either-line false false true true = refl
-either-line false false true false = refl
-either-line false false false true = refl
-either-line false false false false = refl
-
-opened : (b z e l : Bool) → b ≡ true → z ≡ false → b && not z && e && l ≡ e && l
-opened b z e l p q = rw (p, q)
+-- with BF set and IR0 clear only IE and the lines are left of the test
+opened : (b z e l : Bool) → b ≡ true → z ≡ false → b && not z && e && l ≡ l && e
+opened b z e l p q = rw (p, q) (and-comm e l)
 
 module _ (m : Lh5801) where
   -- a field that "Timer reached moves to IR1" leaves
@@ -57,13 +45,11 @@ module _ (m : Lh5801) where
 
   reached-ir1 : reachedOf m .ir1 ≡ m .ir1 || m .«is_timer_reached»
   unfolding reachedOf
-  reached-ir1 = go (m .«is_timer_reached») (m .ir1) refl
+  reached-ir1 = go (m .«is_timer_reached»)
     where
-      go : (t i : Bool) → m .ir1 ≡ i → cond t (moved m) m .ir1 ≡ i || t
-      go true true e = ap (λ (s : Status). s .ir1) (lines .is)
-      go true false e = ap (λ (s : Status). s .ir1) (lines .is)
-      go false true e = e
-      go false false e = e
+      go : (t : Bool) → cond t (moved m) m .ir1 ≡ m .ir1 || t
+      go true = ap (λ (s : Status). s .ir1) (lines .is) ∙ sym (or-true (m .ir1))
+      go false = sym (or-false (m .ir1))
 
   -- a step's two tests for an interrupt
   one : Bool
@@ -77,7 +63,11 @@ module _ (m : Lh5801) where
   unfolding one two
   accepted-by b z =
       opened (m .bf) (m .ir0) _ _ b z
-      ∙ rw (reached-ir1, reached-ir2, reached-t) (either-line (hasFlag (m .t) IE) (m .ir1) (m .«is_timer_reached») (m .ir2))
+      ∙ rw (reached-ir1, reached-ir2, reached-t) (and-or-distrib-right (m .ir1 || m .«is_timer_reached») (m .ir2) (hasFlag (m .t) IE))
+
+  -- and with timer reached clear none is where IE, or both of IR1 and IR2, are clear
+  pub none-accepted : m .bf ≡ true → m .ir0 ≡ false → m .«is_timer_reached» ≡ false → (m .ir1 || m .ir2) && hasFlag (m .t) IE ≡ false → accepted m ≡ false
+  none-accepted b z r n = opened (m .bf) (m .ir0) _ _ b z ∙ rw (r, or-false) n
 
   module _ (inputs : Inputs) where
     -- with BF clear, and with IR0 set, a step is completed

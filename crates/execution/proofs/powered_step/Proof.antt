@@ -8,16 +8,28 @@ timer-part-requires : tie.Need-timer-part-requires
 timer-part-requires c κs = c .before .before .before .pre .0
 
 returns : tie.Need-returns
-returns c = step-held (c .before .before .before .before .args .cpu) (c .before .before .before .before .args .inputs) (c .before .before .before .before .pre .1) (c .before .before .before .before .pre .2) (c .before .if1 .taken) (c .timer-part .ensures)
+returns c =
+    let start = c .before .before .before .before in
+    step-held _ _ (start .pre .1) (start .pre .2) (c .before .if1 .taken) (c .timer-part .ensures)
 
 timer-part-requires-2 : tie.Need-timer-part-requires-2
-timer-part-requires-2 c κs = accept-small _ _ (rw (c .before .before .before .before .before .before .before .acknowledged .ensures, acknowledged-tm (c .before .before .before .before .before .before .before .before .before .before .before .before .before .before .before .args .cpu)) (c .before .before .before .before .before .before .before .before .before .before .before .before .before .before .before .pre .0)) (c .before .before .before .before .accept .ensures)
+timer-part-requires-2 c κs =
+    let cleared = c .before .before .before .before .before .before .before in
+    accept-small _ _ (rw (cleared .acknowledged .ensures, acknowledged-tm) (cleared .before .before .before .before .before .before .before .before .pre .0)) (c .before .before .before .before .accept .ensures)
 
 returns-2 : tie.Need-returns-2
-returns-2 c = step-interrupt (c .before .before .before .before .before .before .before .before .before .before .before .before .before .before .before .before .args .cpu) (c .before .before .before .before .before .before .before .before .before .before .before .before .before .before .before .before .args .inputs) (c .before .before .before .before .before .before .before .before .before .before .before .before .before .before .before .before .pre .1) (c .before .before .before .before .before .before .before .before .before .before .before .before .before .before .before .before .pre .2) (c .before .before .before .before .before .before .before .before .before .before .before .get-flag .result) (c .before .before .before .before .before .before .before .before .before .before .before .get-flag .ensures) (c .before .before .before .before .before .before .before .before .before .before .before .before .before .if1 .left) (c .before .before .before .before .before .before .before .before .before .before .if2 .taken) (c .before .before .before .before .before .before .before .before .acknowledged .ensures) (c .before .before .before .before .before .before .before .before .before .interrupt-vector .ensures) (c .before .before .before .before .before .accept .ensures) (c .timer-part2 .ensures)
+returns-2 c =
+    let cleared = c .before .before .before .before .before .before .before .before in
+    let flag = cleared .before .before .before in
+    let start = flag .before .before .before .before .before in
+    step-interrupt _ _ (start .pre .1) (start .pre .2) _ (flag .get-flag .ensures) (flag .before .before .if1 .left) (cleared .before .before .if2 .taken)
+    (cleared .acknowledged .ensures) (cleared .before .interrupt-vector .ensures) (c .before .before .before .before .before .accept .ensures) (c .timer-part2 .ensures)
 
 returns-3 : tie.Need-returns-3
-returns-3 c = step-halted (c .before .before .before .before .before .before .args .cpu) (c .before .before .before .before .before .before .args .inputs) (c .before .before .before .before .before .before .pre .1) (c .before .before .before .before .before .before .pre .2) (c .before .get-flag .result) (c .before .get-flag .ensures) (c .before .before .before .if1 .left) (c .if2 .left) (c .before .before .before .before .before .before .pre .3)
+returns-3 c =
+    let flag = c .before in
+    let start = flag .before .before .before .before .before in
+    step-halted _ _ (start .pre .1) (start .pre .2) _ (flag .get-flag .ensures) (flag .before .before .if1 .left) (c .if2 .left) (start .pre .3)
 
 pub powered-step-spec : {M : Type 1} → statement M
 powered-step-spec =

@@ -6,7 +6,10 @@ use Rattle.execution.proofs.flow.rti.Tie as tie
 
 returns : tie.Need-returns
 unfolding rtiOf
-returns c = does-then _ (c .before .before .before .before .before .pop-word .ensures) (does-then _ (rw (c .before .before .before .before .wrapping-add-u16 .ensures) at (c .before .before .before .read-byte .ensures)) (does-done (rw (c .with-t .ensures, c .before .with-s .ensures, c .before .before .with-p .ensures, c .before .before .before .before .wrapping-add-u16 .ensures))))
+returns c =
+    does-then _ (c .before .before .before .before .before .pop-word .ensures)
+    (does-then _ (rw (c .before .before .before .before .wrapping-add-u16 .ensures) at (c .before .before .before .read-byte .ensures))
+    (does-done (rw (c .with-t .ensures, c .before .with-s .ensures, c .before .before .with-p .ensures, c .before .before .before .before .wrapping-add-u16 .ensures))))
 
 pub rti-spec : {M : Type 1} → statement M
 rti-spec =

@@ -6,7 +6,9 @@ use Rattle.execution.proofs.flow.sjp.Tie as tie
 
 returns : tie.Need-returns
 unfolding sjpOf
-returns c = does-then _ (c .before .before .before .before .before .before .before .before .readop-word .ensures) (does-then _ (c .before .before .before .before .before .push-word .ensures) (does-done (c .with-p .ensures)))
+returns c =
+    does-then _ (c .before .before .before .before .before .before .before .before .readop-word .ensures)
+    (does-then _ (c .before .before .before .before .before .push-word .ensures) (does-done (c .with-p .ensures)))
 
 pub sjp-spec : {M : Type 1} → statement M
 sjp-spec =

@@ -6,7 +6,11 @@ use Rattle.execution.proofs.flow.vector.Tie as tie
 
 returns : tie.Need-returns
 unfolding vectorOf
-returns c = does-then _ (c .before .before .before .before .before .before .before .before .before .before .before .push-word .ensures) (does-then _ (c .before .before .before .before .get-mem16 .ensures) (does-done (rw (c .add-state .ensures, c .before .with-t .ensures, c .before .before .with-p .ensures, c .before .before .before .set-flag .ensures))))
+returns c =
+    let got = c .before .before .before .before in
+    does-then _ (got .before .before .before .before .before .before .before .push-word .ensures)
+    (does-then _ (got .get-mem16 .ensures)
+    (does-done (rw (c .add-state .ensures, c .before .with-t .ensures, c .before .before .with-p .ensures, c .before .before .before .set-flag .ensures))))
 
 pub vector-spec : {M : Type 1} → statement M
 vector-spec =

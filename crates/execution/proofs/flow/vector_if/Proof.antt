@@ -7,11 +7,17 @@ use Rattle.execution.proofs.flow.vector_if.Tie as tie
 
 returns : tie.Need-returns
 unfolding vectorIfOf
-returns c = does-then _ (c .before .before .before .before .before .before .before .before .before .before .cpu-readop .ensures) (rw (sym (c .before .before .before .before .before .before .before .before .holds .ensures) ∙ c .before .before .before .before .before .before .before .if1 .taken) (rw (c .before .before .before .before .before .before .before .before .before .with-p .ensures) at (c .before .before .before .before .vector .ensures)))
+returns c =
+    let tested = c .before .before .before .before .before .before .before in
+    does-then _ (tested .before .before .before .cpu-readop .ensures)
+    (rw (sym (tested .before .holds .ensures) ∙ tested .if1 .taken)
+    (rw (tested .before .before .with-p .ensures) at (c .before .before .before .before .vector .ensures)))
 
 returns-2 : tie.Need-returns-2
 unfolding vectorIfOf
-returns-2 c = does-then _ (c .before .before .before .cpu-readop .ensures) (rw (sym (c .before .holds .ensures) ∙ c .if1 .left) (does-done (c .before .before .with-p .ensures)))
+returns-2 c =
+    does-then _ (c .before .before .before .cpu-readop .ensures)
+    (rw (sym (c .before .holds .ensures) ∙ c .if1 .left) (does-done (c .before .before .with-p .ensures)))
 
 pub vector-if-spec : {M : Type 1} → statement M
 vector-if-spec =

@@ -7,7 +7,9 @@ use Rattle.execution.proofs.operations.alu.Tie as tie
 
 returns : tie.Need-returns
 unfolding aluOf
-returns c = does-then _ (does-operand (c .before .before .before .before .before .before .args .cpu) (c .before .before .before .before .before .before .args .place) (c .before .before .before .word-at .ensures) (c .before .before .operand .ensures)) (does-done (rw (c .operate .ensures, c .before .with-p .ensures)))
+returns c =
+    does-then _ (does-operand _ _ (c .before .before .before .word-at .ensures) (c .before .before .operand .ensures))
+    (does-done (rw (c .operate .ensures, c .before .with-p .ensures)))
 
 pub alu-spec : {M : Type 1} → statement M
 alu-spec =

@@ -7,7 +7,11 @@ use Rattle.execution.proofs.operations.bii.Tie as tie
 
 returns : tie.Need-returns
 unfolding biiOf
-returns c = does-then _ (does-locate (c .before .before .before .before .before .before .before .before .args .cpu) (c .before .before .before .before .before .before .before .before .args .place) (c .before .before .before .before .before .word-at .ensures) (c .before .before .before .before .locate .ensures)) (does-then _ (c .before .before .before .read-byte .ensures) (does-then _ (c .before .before .cpu-readop .ensures) (does-done (rw (c .bit .ensures, c .before .with-p .ensures)))))
+returns c =
+    does-then _ (does-locate _ _ (c .before .before .before .before .before .word-at .ensures) (c .before .before .before .before .locate .ensures))
+    (does-then _ (c .before .before .before .read-byte .ensures)
+    (does-then _ (c .before .before .cpu-readop .ensures)
+    (does-done (rw (c .bit .ensures, c .before .with-p .ensures)))))
 
 pub bii-spec : {M : Type 1} → statement M
 bii-spec =

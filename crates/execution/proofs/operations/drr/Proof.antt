@@ -1,6 +1,3 @@
-use mathlib.Core.Path.{_∙_, ap}
-use Rattle.arithmetic.specs.declared.Moved.{Moved}
-use Rattle.arithmetic.specs.Record.{with-a}
 use Rattle.pages.proofs.Does.{does-then, does-done}
 use Rattle.execution.specs.Instructions.{drrOf}
 use borrow.Author.Needs.{needs}
@@ -9,7 +6,13 @@ use Rattle.execution.proofs.operations.drr.Tie as tie
 
 returns : tie.Need-returns
 unfolding drrOf
-returns c = does-then _ (rw (c .before .before .before .before .before .before .before .before .before .before .before .before .paged .ensures) at (c .before .before .before .before .before .before .before .before .before .read-byte .ensures)) (does-then _ (rw (c .before .before .before .before .before .before .before .before .before .before .before .before .paged .ensures, c .before .before .before .before .before .before .before .before .drr .ensures) at (c .before .before .before .before .before .write-byte .ensures)) (does-done (c .with-a .ensures ∙ ap (λ (v : Moved). with-a (c .before .before .before .before .before .before .before .before .before .before .before .before .before .before .before .args .cpu) (v .a)) (c .before .before .before .before .before .before .before .before .drr .ensures))))
+returns c =
+    let seen = c .before .before .before .before .before .before .before .before .before in
+    let place = seen .before .before .before .paged .ensures in
+    let moved = c .before .before .before .before .before .before .before .before .drr .ensures in
+    does-then _ (rw place at (seen .read-byte .ensures))
+    (does-then _ (rw (place, moved) at (c .before .before .before .before .before .write-byte .ensures))
+    (does-done (rw (c .with-a .ensures, moved))))
 
 pub drr-spec : {M : Type 1} → statement M
 drr-spec =

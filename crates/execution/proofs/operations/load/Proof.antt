@@ -1,7 +1,4 @@
-use mathlib.Core.Path.{_∙_, ap}
-use Rattle.arithmetic.specs.declared.record.Lh5801.{Lh5801}
 use Rattle.pages.proofs.Does.{does-then, does-done}
-use Rattle.execution.specs.Places.{withHalf}
 use Rattle.execution.specs.Instructions.{loadOf}
 use borrow.Author.Needs.{needs}
 use Rattle.execution.proofs.operations.load.Statement.{statement}
@@ -9,7 +6,7 @@ use Rattle.execution.proofs.operations.load.Tie as tie
 
 returns : tie.Need-returns
 unfolding loadOf
-returns c = does-then _ (c .before .before .cpu-readop .ensures) (does-done (c .set-half .ensures ∙ ap (λ (m : Lh5801). withHalf m (c .before .before .before .before .before .args .h) (c .before .before .cpu-readop .result .value)) (c .before .with-p .ensures)))
+returns c = does-then _ (c .before .before .cpu-readop .ensures) (does-done (rw (c .set-half .ensures, c .before .with-p .ensures)))
 
 pub load-spec : {M : Type 1} → statement M
 load-spec =

@@ -7,7 +7,14 @@ use Rattle.execution.proofs.operations.memory.Tie as tie
 
 returns : tie.Need-returns
 unfolding memoryOf
-returns c = does-then _ (does-locate (c .before .before .before .before .before .before .before .before .before .before .before .before .before .before .before .before .before .before .before .before .before .before .args .cpu) (c .before .before .before .before .before .before .before .before .before .before .before .before .before .before .before .before .before .before .before .before .before .before .args .place) (c .before .before .before .before .before .before .before .before .before .before .before .before .before .before .before .before .before .before .before .word-at .ensures) (c .before .before .before .before .before .before .before .before .before .before .before .before .before .before .before .before .locate .ensures)) (does-then _ (c .before .before .before .before .before .before .before .before .before .before .before .before .before .cpu-readop .ensures) (does-then _ (c .before .before .before .before .before .before .before .before .before .before .read-byte .ensures) (does-then _ (rw (c .before .before .before .before .before .before .before .before .before .changed .ensures) at (c .before .before .before .before .before .before .write-byte .ensures)) (does-done (rw (c .with-t .ensures, c .before .with-p .ensures, c .before .before .before .before .before .before .before .before .before .changed .ensures))))))
+returns c =
+    let change = c .before .before .before .before .before .before .before .before .before in
+    let located = change .before .before .before .before .before .before .before in
+    does-then _ (does-locate _ _ (located .before .before .before .word-at .ensures) (located .locate .ensures))
+    (does-then _ (change .before .before .before .before .cpu-readop .ensures)
+    (does-then _ (change .before .read-byte .ensures)
+    (does-then _ (rw (change .changed .ensures) at (c .before .before .before .before .before .before .write-byte .ensures))
+    (does-done (rw (c .with-t .ensures, c .before .with-p .ensures, change .changed .ensures))))))
 
 pub memory-spec : {M : Type 1} → statement M
 memory-spec =

@@ -10,7 +10,7 @@ unfolding staOf
 returns c = rw (c .before .before .place .given .1) (does-done (c .set-half .ensures))
 
 returns-2 : tie.Need-returns-2
-returns-2 c = rw (other-place (c .before .before .before .before .before .before .before .before .before .before .args .cpu) (c .before .before .before .before .before .before .before .before .before .before .args .place) (c .before .before .before .before .before .before .before .match .keys2)) (c .before .before .before .before .store .ensures)
+returns-2 c = rw (other-place _ _ (c .before .before .before .before .before .before .before .match .keys2)) (c .before .before .before .before .store .ensures)
 
 pub sta-spec : {M : Type 1} → statement M
 sta-spec =

@@ -7,7 +7,10 @@ use Rattle.execution.proofs.operations.store.Tie as tie
 
 returns : tie.Need-returns
 unfolding storeOf
-returns c = does-then _ (does-locate (c .before .before .before .before .before .before .before .before .before .before .before .before .before .before .args .cpu) (c .before .before .before .before .before .before .before .before .before .before .before .before .before .before .args .place) (c .before .before .before .before .before .before .before .before .before .before .before .word-at .ensures) (c .before .before .before .before .before .before .before .before .locate .ensures)) (does-then _ (c .before .before .before .before .before .write-byte .ensures) (does-done (c .with-p .ensures)))
+returns c =
+    let located = c .before .before .before .before .before .before .before .before in
+    does-then _ (does-locate _ _ (located .before .before .before .word-at .ensures) (located .locate .ensures))
+    (does-then _ (c .before .before .before .before .before .write-byte .ensures) (does-done (c .with-p .ensures)))
 
 pub store-spec : {M : Type 1} → statement M
 store-spec =

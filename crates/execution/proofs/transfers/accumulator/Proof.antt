@@ -1,7 +1,7 @@
 use mathlib.Core.Path.{_∙_, ap}
 use Prim.Native.Nat.{ℕ, _+_}
 use Rattle.arithmetic.specs.Record.{with-tm}
-use Rattle.execution.proofs.Operands.{byte-of-tm}
+use Rattle.arithmetic.proofs.Bytes.{byte-cut}
 use borrow.Author.Needs.{needs}
 use Rattle.execution.proofs.transfers.accumulator.Statement.{statement}
 use Rattle.execution.proofs.transfers.accumulator.Tie as tie
@@ -24,5 +24,5 @@ accumulator-spec =
     (λ c. rw (c .before .enum-told8 .given .1) (c .tta .ensures))
     (λ c. rw (c .before .before .enum-told9 .given .1) (c .with-t .ensures))
     (λ c. rw (c .before .enum-told10 .given .1) (c .lda .ensures))
-    (λ c. rw (c .before .before .enum-told11 .given .1) (c .with-tm .ensures ∙ ap (with-tm (c .before .before .before .before .args .cpu)) (byte-of-tm (search needs))))
-    (λ c. rw (c .before .before .enum-told12 .given .1) (c .with-tm2 .ensures ∙ ap (λ (a : ℕ). with-tm (c .before .before .before .before .args .cpu) (a + 0x100)) (byte-of-tm (search needs)))))
+    (λ c. rw (c .before .before .enum-told11 .given .1) (c .with-tm .ensures ∙ ap (with-tm (c .before .before .before .before .args .cpu)) (byte-cut (search needs))))
+    (λ c. rw (c .before .before .enum-told12 .given .1) (c .with-tm2 .ensures ∙ ap (λ (a : ℕ). with-tm (c .before .before .before .before .args .cpu) (a + 0x100)) (byte-cut (search needs)))))

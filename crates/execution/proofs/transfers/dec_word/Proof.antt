@@ -1,6 +1,4 @@
-use mathlib.Core.Path.{_∙_, ap, refl}
 use Rattle.pages.proofs.Stack.{down-only}
-use Rattle.execution.specs.Places.{withWord}
 use Rattle.execution.specs.Instructions.{decWordOf}
 use borrow.Author.Needs.{needs}
 use Rattle.execution.proofs.transfers.dec_word.Statement.{statement}
@@ -8,7 +6,7 @@ use Rattle.execution.proofs.transfers.dec_word.Tie as tie
 
 returns : tie.Need-returns
 unfolding decWordOf
-returns c = c .set-word .ensures ∙ ap (withWord (c .before .before .before .args .cpu) (c .before .before .before .args .r)) (down-only (search needs) (c .before .wrapping-sub-u16 .ensures) ∙ rw (c .before .before .get-word .ensures) refl)
+returns c = rw (c .set-word .ensures, down-only (search needs) (c .before .wrapping-sub-u16 .ensures), c .before .before .get-word .ensures)
 
 pub dec-word-spec : {M : Type 1} → statement M
 dec-word-spec =

@@ -1,5 +1,3 @@
-use mathlib.Core.Path.{_∙_, ap, refl}
-use Rattle.execution.specs.Places.{withWord}
 use Rattle.execution.specs.Instructions.{incWordOf}
 use borrow.Author.Needs.{needs}
 use Rattle.execution.proofs.transfers.inc_word.Statement.{statement}
@@ -7,7 +5,7 @@ use Rattle.execution.proofs.transfers.inc_word.Tie as tie
 
 returns : tie.Need-returns
 unfolding incWordOf
-returns c = c .set-word .ensures ∙ ap (withWord (c .before .before .before .args .cpu) (c .before .before .before .args .r)) (c .before .wrapping-add-u16 .ensures ∙ rw (c .before .before .get-word .ensures) refl)
+returns c = rw (c .set-word .ensures, c .before .wrapping-add-u16 .ensures, c .before .before .get-word .ensures)
 
 pub inc-word-spec : {M : Type 1} → statement M
 inc-word-spec =

@@ -14,18 +14,17 @@ use Rattle.execution.specs.declared.Stop.the-variants.{UnlistedFirst, UnlistedF
 use Rattle.execution.specs.Stops.{stopNumber, stopByte}
 use Rattle.execution.specs.Conditions.{HaltedStop, FirstUnlisted, SecondUnlisted}
 use Rattle.execution.proofs.StopConditions.{stops-5, stops-6, stops-7}
-use Rattle.execution.proofs.StepStates.{step-states}
 use Rattle.execution.specs.Step.{stopped}
 use Rattle.run.specs.declared.Settings.{Settings}
 use Rattle.run.specs.declared.End.{End}
 use Rattle.run.specs.declared.End.the-variants.{AllSteps, Page0Length, Page1Length, TimerValue, Limit, Step}
 use Rattle.run.specs.Acceptance.{endNumber, endByte, Accepted}
-use Rattle.run.specs.Run.{CallResult, callResult, noStep, completed, oneStep, runOf, callOf, callNumber, callByte}
+use Rattle.run.specs.Run.{CallResult, callResult, noStep, oneStep, runOf, callOf, callNumber, callByte}
 use Rattle.run.specs.Reaches.{Reaches, ComesTo, StopsWith}
-use Rattle.run.proofs.Steps.{run-each, run-written}
+use Rattle.run.proofs.Steps.{run-written}
 use Rattle.run.proofs.Acceptance.{Acceptance, page0, page1, timer, limit, accepted, acceptance-case, limit-most, call-run, call-each}
 use Rattle.run.proofs.Numbers.{byte-0, stop-number, number-1, number-2, number-3, number-4}
-use Rattle.run.proofs.Ends.{Ended, all, early, run-ended, run-reaches, reaches-run, reaches-stop}
+use Rattle.run.proofs.Ends.{Ended, all, early, run-ended, run-reaches, reaches-run, reaches-stop, reaches-most}
 
 -- demand 1, byte by byte: the pages after any call are the old ones with the completed steps' writes stored in order
 pub call-written : (s : Settings) (m : Lh5801) (p : Pages) → Written p (callOf s m p .wrote) (callOf s m p .pages)
@@ -200,13 +199,7 @@ module _ (s : Settings) (m : Lh5801) (p : Pages) where
 
 -- the states: a completed step adds at most 23
 run-states : (n : ℕ) (inputs : Inputs) (m : Lh5801) (p : Pages) → runOf n inputs m p .answer .states ≤ 23 * runOf n inputs m p .answer .steps
-unfolding noStep completed
-run-states n inputs =
-    run-each inputs (λ n m p o. o .answer .states ≤ 23 * o .answer .steps)
-    (λ m p. omega arith)
-    (λ n m p s e. omega arith)
-    (λ n m p k t kind e h. omega (arith, step-states m inputs p k t kind e))
-    n
+run-states n inputs m p = reaches-most (run-reaches n inputs m p)
 
 pub call-states : (s : Settings) (m : Lh5801) (p : Pages) → callOf s m p .answer .states ≤ 23 * callOf s m p .answer .steps
 unfolding noStep

@@ -15,7 +15,7 @@ use Rattle.run.specs.declared.End.the-variants.{AllSteps, Page0Length, P
 use Rattle.run.specs.Acceptance.{endNumber, endByte, Page0TooLong, Page1TooLong, TimerTooLarge, LimitOut, Accepted}
 use Rattle.run.specs.Run.{noStep, completed, runOf, callOf, callNumber, Refused}
 use Rattle.run.proofs.Steps.{run-each}
-use Rattle.run.proofs.Acceptance.{Acceptance, page0, page1, timer, limit, accepted, acceptance-case, acceptance-page0, acceptance-page1, acceptance-timer, acceptance-limit, call-run, call-end}
+use Rattle.run.proofs.Acceptance.{Acceptance, page0, page1, timer, limit, accepted, acceptance-case, acceptance-page0, acceptance-page1, acceptance-timer, acceptance-limit, call-run, call-end, call-each}
 
 -- "The byte returned is 0 unless the number is 5 or 6"
 pub byte-0 : (e : End) → ¬ (endNumber e ≡ 5) → ¬ (endNumber e ≡ 6) → endByte e ≡ 0
@@ -99,13 +99,10 @@ module _ (s : Settings) (m : Lh5801) (p : Pages) where
   pub number-4 : (callNumber s m p ≡ 4) ↔ (¬ Page0TooLong p × ¬ Page1TooLong p × ¬ TimerTooLarge m × LimitOut s)
   number-4 = to-four (acceptance-case s m p)
 
-  to-refused : Acceptance s m p → 1 ≤ callNumber s m p → callNumber s m p ≤ 4 → Refused m p (callOf s m p)
-  to-refused (page0 a) i j = rw (call-end s m p (acceptance-page0 s m p a)) (none-refused _ m p refl)
-  to-refused (page1 a b) i j = rw (call-end s m p (acceptance-page1 s m p a b)) (none-refused _ m p refl)
-  to-refused (timer a b c) i j = rw (call-end s m p (acceptance-timer s m p a b c)) (none-refused _ m p refl)
-  to-refused (limit a b c d) i j = rw (call-end s m p (acceptance-limit s m p a b c d)) (none-refused _ m p refl)
-  to-refused (accepted h) i j = absurd (⊎-elim (λ z. omega arith) (λ z. omega arith) (is-none h))
-
   -- on 1 to 4
   pub call-refused : 1 ≤ callNumber s m p → callNumber s m p ≤ 4 → Refused m p (callOf s m p)
-  call-refused = to-refused (acceptance-case s m p)
+  unfolding noStep
+  call-refused =
+      call-each s m p (λ o. 1 ≤ endNumber (o .answer .end) → endNumber (o .answer .end) ≤ 4 → Refused m p o)
+      (λ e i j. none-refused e m p (byte-0 e (λ z. omega arith) (λ z. omega arith)))
+      (λ h i j. absurd (⊎-elim (λ z. omega arith) (λ z. omega arith) (run-number (s .limit) (s .inputs) m p)))

@@ -16,3 +16,4 @@ pub mod StopsClean
 pub mod Tests
 pub mod StopConditions
 pub mod ReadOrder
+pub mod Stops

@@ -6,9 +6,7 @@ use native.Mathlib.Omega.{arith}
 use Rattle.arithmetic.specs.declared.record.Lh5801.{Lh5801}
 use Rattle.execution.specs.declared.Inputs.{Inputs}
 use Rattle.pages.specs.Pages.{Pages}
-use Rattle.execution.specs.declared.Stop.{Stop}
-use Rattle.execution.specs.declared.Stop.the-variants.{UnlistedFirst, UnlistedFd, Halted}
-use Rattle.execution.specs.Stops.{stopNumber}
+use Rattle.execution.proofs.Stops.{stop-least, stop-most, stop-byte-0}
 use Rattle.run.specs.declared.Settings.{Settings}
 use Rattle.run.specs.declared.End.{End}
 use Rattle.run.specs.declared.End.the-variants.{AllSteps, Page0Length, Page1Length, TimerValue, Limit, Step}
@@ -24,15 +22,16 @@ byte-0 Page0Length a b = refl
 byte-0 Page1Length a b = refl
 byte-0 TimerValue a b = refl
 byte-0 Limit a b = refl
-byte-0 (Step (UnlistedFirst v)) a b = absurd (a refl)
-byte-0 (Step (UnlistedFd v)) a b = absurd (b refl)
-byte-0 (Step Halted) a b = refl
+byte-0 (Step s) a b = stop-byte-0 s a b
 
--- the number of a step's stop is none of 1 to 4
-pub stop-number : (s : Stop) → 5 ≤ stopNumber s
-stop-number (UnlistedFirst v) = omega arith
-stop-number (UnlistedFd v) = omega arith
-stop-number Halted = omega arith
+-- there is no number above 7
+pub number-most : (e : End) → endNumber e ≤ 7
+number-most AllSteps = omega arith
+number-most Page0Length = omega arith
+number-most Page1Length = omega arith
+number-most TimerValue = omega arith
+number-most Limit = omega arith
+number-most (Step s) = stop-most s
 
 run-number : (n : ℕ) (inputs : Inputs) (m : Lh5801) (p : Pages)
     → (endNumber (runOf n inputs m p .answer .end) ≡ 0) ⊎ (5 ≤ endNumber (runOf n inputs m p .answer .end))
@@ -40,7 +39,7 @@ unfolding noStep completed
 run-number n inputs =
     run-each inputs (λ n m p o. (endNumber (o .answer .end) ≡ 0) ⊎ (5 ≤ endNumber (o .answer .end)))
     (λ m p. inl refl)
-    (λ n m p s e. inr (stop-number s))
+    (λ n m p s e. inr (stop-least s))
     (λ n m p k t kind e h. h)
     n
 

@@ -1,16 +1,16 @@
 -- A campaign file that was written from contents within their bounds is read back as these contents.
 use Prim.Native.Nat.{ℕ, zero, suc, _+_, _-_, _*_, _/_, _%_, _^_, _<_, _≤_}
 use mathlib.Core.Path.{_≡_, refl, ap, _∙_}
-use mathlib.Core.Bool.{Bool, true, false, cond, _||_}
+use mathlib.Core.Bool.{true, cond}
 use mathlib.Core.List.{List, [], _∷_, _++_, append-assoc, append-nil}
 use mathlib.Core.Logic.{⊎-elim}
 use native.Mathlib.Nat.{pow-suc, add-zero, zero-add, add-assoc}
 use native.Mathlib.Omega.{arith}
 use lib.ListN.{length, take, drop, replicate, length-append}
 use lib.Seq.{drop-at, take-at}
-use lib.Dec.{ltb, eqb}
+use lib.Dec.{ltb}
 use borrow.Author.Needs.{needs}
-use borrow.Author.Tests.{lt-ltb, le-ltb, le-leb, lt-leb, ne-eqb}
+use borrow.Author.Tests.{lt-ltb, le-ltb, le-leb, lt-leb}
 use Rattle.run.specs.RecordNumbers.{AllWithin}
 use Rattle.run.specs.CampaignFile.{whole, groups, groupsOf, read, Reader, _>>=_, given, shortestOf, numberOf, numberBytes, numbersBytes, pageBytes}
 use Rattle.run.specs.CampaignFile.{greatestValues, numbersOf, longest, bytesOf, pageOf, parsedOf, ended, campaignOf, Contents, fieldsOf, fileOf, Within, contents}

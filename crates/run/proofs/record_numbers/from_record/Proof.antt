@@ -1,5 +1,4 @@
 -- `run::record_numbers::from_record` meets its contract: each number is its field's, whose type bounds it.
-use native.Mathlib.Omega.{arith}
 use borrow.Author.Needs.{needs}
 use Rattle.run.proofs.record_numbers.from_record.Statement.{statement}
 use Rattle.run.proofs.record_numbers.from_record.Tie as tie

@@ -10,8 +10,7 @@ returns c =
     let b = c .before .byte-number2 .ensures in
     let byte = c .before .before .byte .ensures in
     let number = c .before .before .before in
-    let cpu = number .before .before .from-record .ensures in
-    (
+    let cpu = number .before .before .from-record .ensures in (
       rw (cpu .0, number .byte-number .ensures .0, number .before .number .ensures, b .0, byte),
       words-within (number .before .before .before .before .args .r) (cpu .1) (omega arith) (omega arith) (omega arith),
     )

@@ -53,7 +53,7 @@ long1 a = call a .instruction .kept .1 .1 .0 ∙ head a .loop .inv .kept .long1
 -- the step that an instruction with such an outcome is
 stepped : (a : tie.After-slice-known4 Inv-loop μ-loop) {o : Executed} → call a .instruction .result ≡ o
     → Does (mapped executedOf (stepOf (head a .loop .current) (start a .args .inputs))) (pages (head a .loop .page0) (head a .loop .page1)) o
-      (pages (call a .instruction .last .1 .0) (call a .instruction .last .1 .1 .0))
+    (pages (call a .instruction .last .1 .0) (call a .instruction .last .1 .1 .0))
 stepped a e = rw (← e) (call a .instruction .ensures .0)
 
 add-steps : tie.Need-add-steps Inv-loop μ-loop

@@ -15,7 +15,9 @@ returns c =
     let first = second .before .before .before in
     let start = first .before .before .before .before .before in
     let a = start .args in (
-      call-result {q0 = prepareOf blank 0 (a .len0) (a .rule) (a .file .now) (a .c .«page0_at») (a .c .«page0_len») (a .sets .now)} {q1 = prepareOf blank 1 (a .len1) (a .rule) (a .file .now) (a .c .«page1_at») (a .c .«page1_len») (a .sets .now)} (a .want .now) (a .want-sums) (start .pre .0) (start .pre .1)
+      call-result {q0 = prepareOf blank 0 (a .len0) (a .rule) (a .file .now) (a .c .«page0_at») (a .c .«page0_len») (a .sets .now)}
+          {q1 = prepareOf blank 1 (a .len1) (a .rule) (a .file .now) (a .c .«page1_at») (a .c .«page1_len») (a .sets .now)}
+          (a .want .now) (a .want-sums) (start .pre .0) (start .pre .1)
           (first .prepare .ensures) (second .prepare2 .ensures) (rw (settings .settings-of .ensures) at (call .run-pages .ensures)) (line .answer-line .ensures)
           (c .before .before .before .before .before .before .sums-page .ensures) (c .before .before .before .before .sums-page2 .ensures)
           (c .before .before .line-differs .ensures .0) (c .before .sums-differ .ensures) (c .either .ensures .0),

@@ -22,12 +22,13 @@ abbrev μ-loop : tie.MeasureT-loop
 
 loop-holds : tie.Need-loop-holds Inv-loop μ-loop
 loop-holds c =
+    let start = c .before .before .before in
     record {
       more = 0;
       steps-are = omega arith;
-      room = omega (arith, c .before .before .before .pre .2);
-      kept = record { long0 = refl; long1 = refl; going = at-start _ _ _ _ (rw (c .reached .ensures, reached-tm (c .before .before .before .args .cpu)) (c .before .before .before .pre .0)) };
-      ready = rw (c .reached .ensures) (reached-ready (c .before .before .before .args .cpu) (c .before .before .before .pre .1));
+      room = omega (arith, start .pre .2);
+      kept = record { long0 = refl; long1 = refl; going = at-start _ _ _ _ (rw (c .reached .ensures, reached-tm (start .args .cpu)) (start .pre .0)) };
+      ready = rw (c .reached .ensures) (reached-ready (start .args .cpu) (start .pre .1));
     }
 
 instruction-requires : tie.Need-instruction-requires Inv-loop μ-loop
@@ -119,7 +120,12 @@ returns-4 c =
 pub instructions-spec : {M : Type 1} → statement M
 instructions-spec =
     tie.close
-    (tie.spec Inv-loop μ-loop (λ c κs. search needs) loop-holds instruction-requires (λ c. search needs) add-steps (λ c κs. search needs) (λ c. long0 (c .before .before .before .before .before)) (λ c. long1 (c .before .before .before .before .before)) returns loop-less loop-again
-    (λ c. search needs) add-open-after (λ c κs. search needs) (λ c. long0 (c .before .before .before .before)) (λ c. long1 (c .before .before .before .before)) returns-2
-    (λ c. search needs) (λ c κs. search needs) (λ c κs. search needs) (λ c. long0 (c .before .before .before .before .before .before)) (λ c. long1 (c .before .before .before .before .before .before)) returns-3
-    (λ c κs. search needs) (λ c. long0 (c .before .before .before .before .before)) (λ c. long1 (c .before .before .before .before .before)) returns-4)
+    (tie.spec Inv-loop μ-loop (λ c κs. search needs) loop-holds instruction-requires
+    (λ c. search needs) add-steps (λ c κs. search needs)
+    (λ c. long0 (c .before .before .before .before .before)) (λ c. long1 (c .before .before .before .before .before)) returns loop-less loop-again
+    (λ c. search needs) add-open-after (λ c κs. search needs)
+    (λ c. long0 (c .before .before .before .before)) (λ c. long1 (c .before .before .before .before)) returns-2
+    (λ c. search needs) (λ c κs. search needs) (λ c κs. search needs)
+    (λ c. long0 (c .before .before .before .before .before .before)) (λ c. long1 (c .before .before .before .before .before .before)) returns-3
+    (λ c κs. search needs)
+    (λ c. long0 (c .before .before .before .before .before)) (λ c. long1 (c .before .before .before .before .before)) returns-4)

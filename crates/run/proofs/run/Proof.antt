@@ -25,7 +25,17 @@ steps-of-requires : tie.Need-steps-of-requires
 steps-of-requires c κs = (omega arith, omega arith)
 
 returns-6 : tie.Need-returns-6
-returns-6 c = accepted-answers _ _ _ (record { page0 = (λ h. omega arith); page1 = (λ h. omega arith); timer = (λ h. omega arith); limit = ⊎-elim (c .before .before .before .before .before .before .before .before .before .before .if4 .left) (λ h. omega arith) }) (c .before .before .before .before .steps-of .ensures)
+returns-6 c =
+    let steps = c .before .before .before .before in
+    let limit = steps .before .before .before .before .before .before in
+    accepted-answers _ _ _
+    (record {
+      page0 = (λ h. omega arith);
+      page1 = (λ h. omega arith);
+      timer = (λ h. omega arith);
+      limit = ⊎-elim (limit .if4 .left) (λ h. omega arith);
+    })
+    (steps .steps-of .ensures)
 
 pub run-spec : {M : Type 1} → statement M
 run-spec =

@@ -2,18 +2,16 @@
 use Prim.Native.Nat.{ℕ, _-_, _%_, _^_, _≤_}
 use mathlib.Core.Path.{_≡_, refl, ap, _∙_}
 use mathlib.Core.Bool.{Bool, true, false, cond}
-use mathlib.Core.List.{List, [], _∷_, _++_}
+use mathlib.Core.List.{List, [], _∷_}
 use native.Mathlib.Omega.{arith}
 use lib.Dec.{ltb}
-use lib.ListN.{length, getD, take}
+use lib.ListN.{getD, take}
 use borrow.Author.Tests.{le-ltb, ltb-false}
-use Rattle.execution.specs.declared.Stop.the-variants.{UnlistedFirst, UnlistedFd, Halted}
 use Rattle.run.specs.declared.Answer.{Answer}
-use Rattle.run.specs.declared.End.{End}
-use Rattle.run.specs.declared.End.the-variants.{AllSteps, Page0Length, Page1Length, TimerValue, Limit, Step}
 use Rattle.run.specs.Acceptance.{endNumber, endByte}
 use Rattle.run.specs.RecordNumbers.{recordNumbers, recordOf, AllWithin, widths}
-use Rattle.run.proofs.RecordNumbers.{record-back}
+use Rattle.run.proofs.Numbers.{number-most}
+use Rattle.run.proofs.RecordNumbers.{within-append, record-back}
 use Rattle.lh5801.specs.Words.{takenOf, cpuOf, wordsOf, wordWidths}
 
 limited-small : (value : ℕ) → cond (ltb 65535 value) 65535 value ≤ 65535
@@ -27,29 +25,11 @@ pub taken-within : (words : List ℕ) → AllWithin (take 8 widths) (takenOf wor
 unfolding takenOf
 taken-within words = (omega arith, (omega arith, (omega arith, (omega arith, (omega arith, (omega arith, (omega arith, (limited-small (getD words 7 0), tt))))))))
 
--- document 01's numbers of a call's end are at most 7
-number-small : (e : End) → endNumber e ≤ 7
-number-small AllSteps = omega arith
-number-small Page0Length = omega arith
-number-small Page1Length = omega arith
-number-small TimerValue = omega arith
-number-small Limit = omega arith
-number-small (Step (UnlistedFirst b)) = omega arith
-number-small (Step (UnlistedFd b)) = omega arith
-number-small (Step Halted) = omega arith
-
-within-append : (mosts values more others : List ℕ) → length values ≡ length mosts → AllWithin mosts values → AllWithin more others
-    → AllWithin (mosts ++ more) (values ++ others)
-within-append [] [] more others e h g = g
-within-append [] (value ∷ values) more others e h g = absurd (omega arith)
-within-append (most ∷ mosts) [] more others e h g = absurd h
-within-append (most ∷ mosts) (value ∷ values) more others e h g = (h .0, within-append mosts values more others (omega arith) (h .1) g)
-
 pub words-within : (r : Answer) → AllWithin widths (recordNumbers (r .cpu)) → endByte (r .end) ≤ 255 → r .steps ≤ 2 ^ 32 - 1 → r .states ≤ 2 ^ 64 - 1
     → AllWithin wordWidths (wordsOf r)
 words-within r h byte steps states =
     within-append widths (recordNumbers (r .cpu)) (7 ∷ 255 ∷ (2 ^ 32 - 1) ∷ (2 ^ 64 - 1) ∷ []) (endNumber (r .end) ∷ endByte (r .end) ∷ r .steps ∷ r .states ∷ []) refl h
-    (number-small (r .end), (byte, (steps, (states, tt))))
+    (number-most (r .end), (byte, (steps, (states, tt))))
 
 taken-back : (r : Answer) → AllWithin wordWidths (wordsOf r) → takenOf (wordsOf r) ≡ recordNumbers (r .cpu)
 unfolding takenOf

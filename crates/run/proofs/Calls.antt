@@ -1,5 +1,5 @@
 -- Every run call: its pages, its steps, its stops and its states.
-use mathlib.Core.Path.{_≡_, refl, sym, ap, _∙_}
+use mathlib.Core.Path.{_≡_, sym, ap, _∙_}
 use mathlib.Core.List.{List}
 use mathlib.Core.Logic.{_↔_}
 use Prim.Native.Nat.{ℕ, _*_, _<_, _≤_}
@@ -12,20 +12,20 @@ use Rattle.pages.proofs.Exec.{written-none}
 use Rattle.execution.specs.declared.Stop.{Stop}
 use Rattle.execution.specs.declared.Stop.the-variants.{UnlistedFirst, UnlistedFd, Halted}
 use Rattle.execution.specs.Stops.{stopNumber, stopByte}
+use Rattle.execution.proofs.Stops.{stop-least, stop-same}
 use Rattle.execution.specs.Conditions.{HaltedStop, FirstUnlisted, SecondUnlisted}
 use Rattle.execution.proofs.StopConditions.{stops-5, stops-6, stops-7}
-use Rattle.execution.proofs.StepStates.{step-states}
 use Rattle.execution.specs.Step.{stopped}
 use Rattle.run.specs.declared.Settings.{Settings}
 use Rattle.run.specs.declared.End.{End}
 use Rattle.run.specs.declared.End.the-variants.{AllSteps, Page0Length, Page1Length, TimerValue, Limit, Step}
 use Rattle.run.specs.Acceptance.{endNumber, endByte, Accepted}
-use Rattle.run.specs.Run.{CallResult, callResult, noStep, completed, oneStep, runOf, callOf, callNumber, callByte}
+use Rattle.run.specs.Run.{CallResult, callResult, noStep, oneStep, runOf, callOf, callNumber, callByte}
 use Rattle.run.specs.Reaches.{Reaches, ComesTo, StopsWith}
-use Rattle.run.proofs.Steps.{run-each, run-written}
+use Rattle.run.proofs.Steps.{run-written}
 use Rattle.run.proofs.Acceptance.{Acceptance, page0, page1, timer, limit, accepted, acceptance-case, limit-most, call-run, call-each}
-use Rattle.run.proofs.Numbers.{byte-0, stop-number, number-1, number-2, number-3, number-4}
-use Rattle.run.proofs.Ends.{Ended, all, early, run-ended, run-reaches, reaches-run, reaches-stop}
+use Rattle.run.proofs.Numbers.{byte-0, number-1, number-2, number-3, number-4}
+use Rattle.run.proofs.Ends.{Ended, all, early, run-ended, run-reaches, reaches-run, reaches-stop, reaches-most}
 
 -- demand 1, byte by byte: the pages after any call are the old ones with the completed steps' writes stored in order
 pub call-written : (s : Settings) (m : Lh5801) (p : Pages) → Written p (callOf s m p .wrote) (callOf s m p .pages)
@@ -115,7 +115,7 @@ module _ (s : Settings) (m : Lh5801) (p : Pages) where
     where
       go : {o : CallResult} → Ended (s .inputs) (s .limit) o → endNumber (o .answer .end) ≡ 0 → o .answer .end ≡ AllSteps
       go (all e i) a = e
-      go (early y e i b) a = absurd (omega (arith, stop-number y, ap endNumber e))
+      go (early y e i b) a = absurd (omega (arith, stop-least y, ap endNumber e))
 
   to-zero : Acceptance s m p → (callNumber s m p ≡ 0) ↔ (Accepted s m p × (callOf s m p .answer .steps ≡ s .limit))
   to-zero (page0 a) = (λ e. absurd (omega (arith, number-1 s m p .1 a)), λ r. absurd (r .0 .page0 a))
@@ -129,20 +129,12 @@ module _ (s : Settings) (m : Lh5801) (p : Pages) where
 
 -- the end of a stop is known by its number and its byte
 stop-end : (e : End) (x : Stop) → endNumber e ≡ stopNumber x → endByte e ≡ stopByte x → e ≡ Step x
-stop-end AllSteps x i j = absurd (omega (arith, stop-number x))
-stop-end Page0Length x i j = absurd (omega (arith, stop-number x))
-stop-end Page1Length x i j = absurd (omega (arith, stop-number x))
-stop-end TimerValue x i j = absurd (omega (arith, stop-number x))
-stop-end Limit x i j = absurd (omega (arith, stop-number x))
-stop-end (Step (UnlistedFirst a)) (UnlistedFirst b) i j = ap (λ n. Step (UnlistedFirst n)) j
-stop-end (Step (UnlistedFd a)) (UnlistedFd b) i j = ap (λ n. Step (UnlistedFd n)) j
-stop-end (Step Halted) Halted i j = refl
-stop-end (Step (UnlistedFirst a)) (UnlistedFd b) i j = absurd (omega arith)
-stop-end (Step (UnlistedFirst a)) Halted i j = absurd (omega arith)
-stop-end (Step (UnlistedFd a)) (UnlistedFirst b) i j = absurd (omega arith)
-stop-end (Step (UnlistedFd a)) Halted i j = absurd (omega arith)
-stop-end (Step Halted) (UnlistedFirst b) i j = absurd (omega arith)
-stop-end (Step Halted) (UnlistedFd b) i j = absurd (omega arith)
+stop-end AllSteps x i j = absurd (omega (arith, stop-least x))
+stop-end Page0Length x i j = absurd (omega (arith, stop-least x))
+stop-end Page1Length x i j = absurd (omega (arith, stop-least x))
+stop-end TimerValue x i j = absurd (omega (arith, stop-least x))
+stop-end Limit x i j = absurd (omega (arith, stop-least x))
+stop-end (Step y) x i j = ap Step (stop-same y x i j)
 
 -- what holds where the steps come to, and what follows from it
 comes-so : {inputs : Inputs} {n : ℕ} {m : Lh5801} {p : Pages} {C D : Lh5801 → Pages → Type 0}
@@ -163,10 +155,10 @@ module _ (s : Settings) (m : Lh5801) (p : Pages) where
   to-stop : (x : Stop) → Acceptance s m p
       → ((callNumber s m p ≡ stopNumber x) × (callByte s m p ≡ stopByte x))
       ↔ (Accepted s m p × ComesTo (s .inputs) (s .limit) m p (StopsWith (s .inputs) x))
-  to-stop x (page0 a) = (λ e. absurd (omega (arith, stop-number x, number-1 s m p .1 a, e .0)), λ r. absurd (r .0 .page0 a))
-  to-stop x (page1 a b) = (λ e. absurd (omega (arith, stop-number x, number-2 s m p .1 (a, b), e .0)), λ r. absurd (r .0 .page1 b))
-  to-stop x (timer a b c) = (λ e. absurd (omega (arith, stop-number x, number-3 s m p .1 (a, b, c), e .0)), λ r. absurd (r .0 .timer c))
-  to-stop x (limit a b c d) = (λ e. absurd (omega (arith, stop-number x, number-4 s m p .1 (a, b, c, d), e .0)), λ r. absurd (r .0 .limit d))
+  to-stop x (page0 a) = (λ e. absurd (omega (arith, stop-least x, number-1 s m p .1 a, e .0)), λ r. absurd (r .0 .page0 a))
+  to-stop x (page1 a b) = (λ e. absurd (omega (arith, stop-least x, number-2 s m p .1 (a, b), e .0)), λ r. absurd (r .0 .page1 b))
+  to-stop x (timer a b c) = (λ e. absurd (omega (arith, stop-least x, number-3 s m p .1 (a, b, c), e .0)), λ r. absurd (r .0 .timer c))
+  to-stop x (limit a b c d) = (λ e. absurd (omega (arith, stop-least x, number-4 s m p .1 (a, b, c, d), e .0)), λ r. absurd (r .0 .limit d))
   to-stop x (accepted h) = (
     λ e. (h, step-stops s m p h x .0 (stop-end _ x (e .0) (e .1))),
     λ r. let e = step-stops s m p h x .1 (r .1) in (ap endNumber e, ap endByte e),
@@ -200,13 +192,7 @@ module _ (s : Settings) (m : Lh5801) (p : Pages) where
 
 -- the states: a completed step adds at most 23
 run-states : (n : ℕ) (inputs : Inputs) (m : Lh5801) (p : Pages) → runOf n inputs m p .answer .states ≤ 23 * runOf n inputs m p .answer .steps
-unfolding noStep completed
-run-states n inputs =
-    run-each inputs (λ n m p o. o .answer .states ≤ 23 * o .answer .steps)
-    (λ m p. omega arith)
-    (λ n m p s e. omega arith)
-    (λ n m p k t kind e h. omega (arith, step-states m inputs p k t kind e))
-    n
+run-states n inputs m p = reaches-most (run-reaches n inputs m p)
 
 pub call-states : (s : Settings) (m : Lh5801) (p : Pages) → callOf s m p .answer .states ≤ 23 * callOf s m p .answer .steps
 unfolding noStep

@@ -9,13 +9,13 @@ use Rattle.arithmetic.specs.declared.record.Lh5801.{Lh5801}
 use Rattle.execution.specs.declared.Inputs.{Inputs}
 use Rattle.pages.specs.Pages.{Pages, SameLength}
 use Rattle.pages.specs.Written.{Written}
-use Rattle.execution.proofs.StepKeeps.{step-small}
 use Rattle.run.specs.declared.Settings.{Settings}
 use Rattle.run.specs.Acceptance.{Accepted}
-use Rattle.run.specs.Run.{CallResult, noStep, completed, runOf, settings, callsOf}
+use Rattle.run.specs.Run.{CallResult, runOf, settings, callsOf}
 use Rattle.run.specs.Demand.{sum, AtLeastOne, AllAccepted, SameAsRun, Demand3}
-use Rattle.run.proofs.Steps.{run-each, run-written, join, run-split, SameButPages, run-agree}
+use Rattle.run.proofs.Steps.{run-written, join, run-split, SameButPages, run-agree}
 use Rattle.run.proofs.Acceptance.{limit-some, limit-most, call-run}
+use Rattle.run.proofs.Ends.{run-reaches, reaches-small}
 
 -- the results xs, one after another, come to the result x
 record SumsTo (x : CallResult) (xs : List CallResult) : Type 0 where
@@ -94,13 +94,7 @@ long-accepted h l = record { page0 = rw (← (l .page0)) (h .page0); page1 = rw 
 
 -- the steps of a call keep TM at most 511
 pub run-small : (n : ℕ) (inputs : Inputs) (m : Lh5801) (p : Pages) → m .tm < 512 → runOf n inputs m p .answer .cpu .tm < 512
-unfolding noStep completed
-run-small n inputs =
-    run-each inputs (λ n m p o. m .tm < 512 → o .answer .cpu .tm < 512)
-    (λ m p h. h)
-    (λ n m p s e h. h)
-    (λ n m p k t kind e ih h. ih (step-small m inputs h p k t kind e))
-    n
+run-small n inputs m p = reaches-small (run-reaches n inputs m p)
 
 -- after the first call of a list, the others can be accepted
 rest-accepted : (l n : ℕ) (inputs : Inputs) {m : Lh5801} {p : Pages} → Accepted (settings inputs (l + n)) m p → 1 ≤ n

@@ -6,16 +6,14 @@ use native.Mathlib.Omega.{arith}
 use Rattle.arithmetic.specs.declared.record.Lh5801.{Lh5801}
 use Rattle.execution.specs.declared.Inputs.{Inputs}
 use Rattle.pages.specs.Pages.{Pages}
-use Rattle.execution.specs.declared.Stop.{Stop}
-use Rattle.execution.specs.declared.Stop.the-variants.{UnlistedFirst, UnlistedFd, Halted}
-use Rattle.execution.specs.Stops.{stopNumber}
+use Rattle.execution.proofs.Stops.{stop-least, stop-most, stop-byte-0}
 use Rattle.run.specs.declared.Settings.{Settings}
 use Rattle.run.specs.declared.End.{End}
 use Rattle.run.specs.declared.End.the-variants.{AllSteps, Page0Length, Page1Length, TimerValue, Limit, Step}
 use Rattle.run.specs.Acceptance.{endNumber, endByte, Page0TooLong, Page1TooLong, TimerTooLarge, LimitOut, Accepted}
 use Rattle.run.specs.Run.{noStep, completed, runOf, callOf, callNumber, Refused}
 use Rattle.run.proofs.Steps.{run-each}
-use Rattle.run.proofs.Acceptance.{Acceptance, page0, page1, timer, limit, accepted, acceptance-case, acceptance-page0, acceptance-page1, acceptance-timer, acceptance-limit, call-run, call-end}
+use Rattle.run.proofs.Acceptance.{Acceptance, page0, page1, timer, limit, accepted, acceptance-case, acceptance-page0, acceptance-page1, acceptance-timer, acceptance-limit, call-run, call-end, call-each}
 
 -- "The byte returned is 0 unless the number is 5 or 6"
 pub byte-0 : (e : End) → ¬ (endNumber e ≡ 5) → ¬ (endNumber e ≡ 6) → endByte e ≡ 0
@@ -24,15 +22,16 @@ byte-0 Page0Length a b = refl
 byte-0 Page1Length a b = refl
 byte-0 TimerValue a b = refl
 byte-0 Limit a b = refl
-byte-0 (Step (UnlistedFirst v)) a b = absurd (a refl)
-byte-0 (Step (UnlistedFd v)) a b = absurd (b refl)
-byte-0 (Step Halted) a b = refl
+byte-0 (Step s) a b = stop-byte-0 s a b
 
--- the number of a step's stop is none of 1 to 4
-pub stop-number : (s : Stop) → 5 ≤ stopNumber s
-stop-number (UnlistedFirst v) = omega arith
-stop-number (UnlistedFd v) = omega arith
-stop-number Halted = omega arith
+-- there is no number above 7
+pub number-most : (e : End) → endNumber e ≤ 7
+number-most AllSteps = omega arith
+number-most Page0Length = omega arith
+number-most Page1Length = omega arith
+number-most TimerValue = omega arith
+number-most Limit = omega arith
+number-most (Step s) = stop-most s
 
 run-number : (n : ℕ) (inputs : Inputs) (m : Lh5801) (p : Pages)
     → (endNumber (runOf n inputs m p .answer .end) ≡ 0) ⊎ (5 ≤ endNumber (runOf n inputs m p .answer .end))
@@ -40,7 +39,7 @@ unfolding noStep completed
 run-number n inputs =
     run-each inputs (λ n m p o. (endNumber (o .answer .end) ≡ 0) ⊎ (5 ≤ endNumber (o .answer .end)))
     (λ m p. inl refl)
-    (λ n m p s e. inr (stop-number s))
+    (λ n m p s e. inr (stop-least s))
     (λ n m p k t kind e h. h)
     n
 
@@ -99,13 +98,10 @@ module _ (s : Settings) (m : Lh5801) (p : Pages) where
   pub number-4 : (callNumber s m p ≡ 4) ↔ (¬ Page0TooLong p × ¬ Page1TooLong p × ¬ TimerTooLarge m × LimitOut s)
   number-4 = to-four (acceptance-case s m p)
 
-  to-refused : Acceptance s m p → 1 ≤ callNumber s m p → callNumber s m p ≤ 4 → Refused m p (callOf s m p)
-  to-refused (page0 a) i j = rw (call-end s m p (acceptance-page0 s m p a)) (none-refused _ m p refl)
-  to-refused (page1 a b) i j = rw (call-end s m p (acceptance-page1 s m p a b)) (none-refused _ m p refl)
-  to-refused (timer a b c) i j = rw (call-end s m p (acceptance-timer s m p a b c)) (none-refused _ m p refl)
-  to-refused (limit a b c d) i j = rw (call-end s m p (acceptance-limit s m p a b c d)) (none-refused _ m p refl)
-  to-refused (accepted h) i j = absurd (⊎-elim (λ z. omega arith) (λ z. omega arith) (is-none h))
-
   -- on 1 to 4
   pub call-refused : 1 ≤ callNumber s m p → callNumber s m p ≤ 4 → Refused m p (callOf s m p)
-  call-refused = to-refused (acceptance-case s m p)
+  unfolding noStep
+  call-refused =
+      call-each s m p (λ o. 1 ≤ endNumber (o .answer .end) → endNumber (o .answer .end) ≤ 4 → Refused m p o)
+      (λ e i j. none-refused e m p (byte-0 e (λ z. omega arith) (λ z. omega arith)))
+      (λ h i j. absurd (⊎-elim (λ z. omega arith) (λ z. omega arith) (run-number (s .limit) (s .inputs) m p)))

@@ -35,13 +35,6 @@ put-then {before} {middle} {after} {xs} {ys} {at} {place} {next} p q = record {
   after-is = q .after-is ∙ rw (p .after-is, p .next-is) (sets-append xs ys before at);
 }
 
--- the same, named by its two pieces
-pub record Then {before middle after xs ys : List ℕ} {at place next : ℕ} (p : Put before at xs middle place) (q : Put middle place ys after next) : Type 0 where
-  pub both : Put before at (xs ++ ys) after next
-
-pub then : {before middle after xs ys : List ℕ} {at place next : ℕ} (p : Put before at xs middle place) (q : Put middle place ys after next) → Then p q
-then p q = record { both = put-then p q }
-
 -- fields, each with its space, put one after another
 abbrev gathered : List ℕ → List (List ℕ) → List ℕ
 gathered so [] = so
@@ -57,6 +50,15 @@ put-fields field fields p = rw (gathered-is (field ++ (space ∷ [])) fields, ap
 
 pub put-length : {before after bytes : List ℕ} {at next : ℕ} → Put before at bytes after next → length after ≡ length before
 put-length {before} {after} {bytes} {at} p = ap length (p .after-is) ∙ length-sets before at bytes
+
+-- a piece put after what came before, with so much of the buffer left
+pub record PutThen {before middle after xs ys : List ℕ} {at place next : ℕ} (p : Put before at xs middle place) (q : Put middle place ys after next) (left : ℕ) : Type 0 where
+  pub both : Put before at (xs ++ ys) after next
+  pub room : next + left ≤ length after
+
+pub then : {before middle after xs ys : List ℕ} {at place next left : ℕ} (p : Put before at xs middle place) (q : Put middle place ys after next)
+    → place + (length ys + left) ≤ length middle → PutThen p q left
+then p q h = record { both = put-then p q; room = omega (arith, q .next-is, put-length q) }
 
 -- a piece at the start of a buffer that holds it
 pub printed : {before after bytes : List ℕ} {next : ℕ} → Put before 0 bytes after next → next ≤ length before → Printed before bytes after next

@@ -9,6 +9,7 @@ use lib.Seq.{drop-cons}
 use lib.Dec.{eqb}
 use Rattle.arithmetic.specs.declared.record.Lh5801.{Lh5801}
 use Rattle.arithmetic.specs.Flags.{bitOf}
+use Rattle.arithmetic.proofs.Bytes.{bit-small}
 use Rattle.run.specs.RecordNumbers.{flagsOf, recordNumbers, recordOf, AllWithin}
 
 -- ---- numbers within others
@@ -30,15 +31,18 @@ within-wider (wide ∷ wider) [] values w h = absurd w
 within-wider (wide ∷ wider) (most ∷ mosts) [] w h = absurd h
 within-wider (wide ∷ wider) (most ∷ mosts) (value ∷ values) w h = (omega (arith, w .0, h .0), within-wider wider mosts values (w .1) (h .1))
 
+pub within-append : (mosts values more others : List ℕ) → length values ≡ length mosts → AllWithin mosts values → AllWithin more others
+    → AllWithin (mosts ++ more) (values ++ others)
+within-append [] [] more others e h g = g
+within-append [] (value ∷ values) more others e h g = absurd (omega arith)
+within-append (most ∷ mosts) [] more others e h g = absurd h
+within-append (most ∷ mosts) (value ∷ values) more others e h g = (h .0, within-append mosts values more others (omega arith) (h .1) g)
+
 -- ---- from a record to its numbers and back
 
 bit-is : (b : Bool) → eqb (bitOf b) 1 ≡ b
 bit-is true = refl
 bit-is false = refl
-
-bit-small : (b : Bool) → bitOf b ≤ 1
-bit-small true = omega arith
-bit-small false = omega arith
 
 -- each bit of the flags is at most 1
 record Bits (m : Lh5801) : Type 0 where

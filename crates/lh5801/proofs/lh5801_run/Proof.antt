@@ -13,12 +13,15 @@ record-of-requires c κs = rw (c .before .taken .ensures) (omega arith, taken-wi
 
 returns : tie.Need-returns
 returns c =
-    let a = rw (c .before .before .before .before .before .before .before .before .before .record-of .ensures, c .before .before .before .before .before .before .before .before .before .before .before .taken .ensures, c .before .before .before .before .before .before .before .before .of-keyboard .ensures) at (c .before .before .before .before .before .run .ensures) in
+    let call = c .before .before .before .before .before in
+    let keyboard = call .before .before .before in
+    let from = keyboard .before in
+    let a = rw (from .record-of .ensures, from .before .before .taken .ensures, keyboard .of-keyboard .ensures) at (call .run .ensures) in
     let w = c .words-of .ensures in
     record {
       words-are = w .0 ∙ ap wordsOf (a .answer);
       within = rw (w .0) (w .1);
-      continues = rw (w .0) (continues (c .before .before .before .before .before .run .result) (w .1)) ∙ ap (λ r. r .cpu) (a .answer);
+      continues = rw (w .0) (continues (call .run .result) (w .1)) ∙ ap (λ r. r .cpu) (a .answer);
       pages = a .pages;
     }
 

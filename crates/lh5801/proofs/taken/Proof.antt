@@ -6,7 +6,9 @@ use Rattle.lh5801.proofs.taken.Tie as tie
 
 returns : tie.Need-returns
 unfolding takenOf
-returns c = rw (c .before .before .before .before .before .before .before .before .before .before .before .limited .ensures)
+returns c =
+    let x = c .before .before .before .before .before .before .before .before in
+    rw (x .before .before .before .limited .ensures)
 
 pub taken-spec : {M : Type 1} → statement M
 taken-spec =

@@ -6,10 +6,14 @@ use Rattle.lh5801.proofs.words_of.Statement.{statement}
 use Rattle.lh5801.proofs.words_of.Tie as tie
 
 returns : tie.Need-returns
-returns c = (
-  rw (c .before .before .before .before .before .from-record .ensures .0, c .before .before .before .byte-number .ensures .0, c .before .before .before .before .number .ensures, c .before .byte-number2 .ensures .0, c .before .before .byte .ensures),
-  words-within (c .before .before .before .before .before .before .before .args .r) (c .before .before .before .before .before .from-record .ensures .1) (omega (arith, c .before .byte-number2 .ensures .0, c .before .byte-number2 .ensures .1, c .before .before .byte .ensures)) (omega arith) (omega arith),
-)
+returns c =
+    let b = c .before .byte-number2 .ensures in
+    let byte = c .before .before .byte .ensures in
+    let number = c .before .before .before in
+    let cpu = number .before .before .from-record .ensures in (
+      rw (cpu .0, number .byte-number .ensures .0, number .before .number .ensures, b .0, byte),
+      words-within (number .before .before .before .before .args .r) (cpu .1) (omega arith) (omega arith) (omega arith),
+    )
 
 pub words-of-spec : {M : Type 1} → statement M
 words-of-spec =

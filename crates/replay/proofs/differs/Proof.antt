@@ -17,19 +17,31 @@ returns-2 c = (rw (le-ltb _ _ (c .before .if1 .left), lt-ltb _ _ (c .if2 .taken)
 
 returns-3 : tie.Need-returns-3
 unfolding differsOf
-returns-3 c = (
-  rw (le-ltb _ _ (c .before .before .before .before .before .before .if1 .left), le-ltb _ _ (c .before .before .before .before .before .if2 .left), file-read (campaignOf (c .before .before .before .before .before .before .before .before .before .before .args .file .now) 0) (c .before .before .before .before .read-campaign .ensures) (c .before .before .read .given .1) .is)
-      (c .call-differs .ensures .0),
-  c .call-differs .ensures .1,
-)
+returns-3 c =
+    let file = c .before .before .before .before in
+    let test = file .before .before in (
+      rw (
+        le-ltb _ _ (test .if1 .left),
+        le-ltb _ _ (file .before .if2 .left),
+        file-read (campaignOf (test .before .before .before .before .args .file .now) 0) (file .read-campaign .ensures) (c .before .before .read .given .1) .is,
+      )
+          (c .call-differs .ensures .0),
+      c .call-differs .ensures .1,
+    )
 
 returns-4 : tie.Need-returns-4
 unfolding differsOf
-returns-4 c = (
-  rw (le-ltb _ _ (c .before .before .before .before .before .before .if1 .left), le-ltb _ _ (c .before .before .before .before .before .if2 .left), file-refused (campaignOf (c .before .before .before .before .before .before .before .before .before .before .args .file .now) 0) (c .before .before .before .before .read-campaign .ensures) (c .before .before .read2 .given .1))
-      (c .refusal-differs .ensures .0),
-  c .refusal-differs .ensures .1,
-)
+returns-4 c =
+    let file = c .before .before .before .before in
+    let test = file .before .before in (
+      rw (
+        le-ltb _ _ (test .if1 .left),
+        le-ltb _ _ (file .before .if2 .left),
+        file-refused (campaignOf (test .before .before .before .before .args .file .now) 0) (file .read-campaign .ensures) (c .before .before .read2 .given .1),
+      )
+          (c .refusal-differs .ensures .0),
+      c .refusal-differs .ensures .1,
+    )
 
 pub differs-spec : {M : Type 1} → statement M
 differs-spec =

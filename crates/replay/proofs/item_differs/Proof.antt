@@ -11,11 +11,21 @@ returns c = (rw (← c .before .before .before .two .ensures .0, ← c .before .
 
 returns-2 : tie.Need-returns-2
 unfolding itemDiffersOf
-returns-2 c = (
-  rw (← c .before .before .before .before .before .before .before .before .before .two .ensures .0, ← c .before .before .before .before .before .before .before .wide .ensures .0, le-ltb _ _ (c .before .before .before .before .before .before .if1 .left), ← c .before .before .before .before .before .before .before .before .before .before .before .before .before .four .ensures .0, ← c .before .before .before .before .before .before .before .before .before .before .before .before .four2 .ensures .0, ← c .before .before .before .before .before .eight .ensures, ← c .before .before .before .before .eight2 .ensures)
-      (c .differs .ensures .0),
-  c .differs .ensures .1,
-)
+returns-2 c =
+    let test = c .before .before .before .before .before .before in
+    let two = test .before .before .before in (
+      rw (
+        ← two .two .ensures .0,
+        ← test .before .wide .ensures .0,
+        le-ltb _ _ (test .if1 .left),
+        ← two .before .before .before .before .four .ensures .0,
+        ← two .before .before .before .four2 .ensures .0,
+        ← c .before .before .before .before .before .eight .ensures,
+        ← c .before .before .before .before .eight2 .ensures,
+      )
+          (c .differs .ensures .0),
+      c .differs .ensures .1,
+    )
 
 pub item-differs-spec : {M : Type 1} → statement M
 item-differs-spec =

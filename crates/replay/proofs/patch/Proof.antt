@@ -19,12 +19,14 @@ loop-holds : tie.Need-loop-holds Inv-loop μ-loop
 loop-holds c = (omega arith, refl, refl)
 
 loop-again : tie.Need-loop-again Inv-loop μ-loop
-loop-again c = (
-  search needs,
-  search needs,
-  rw (c .before .before .set .ensures, c .before .before .before .before .wide .ensures .0, c .before .before .before .before .before .before .before .two .ensures .0)
-      (sym (one-patched _ _ (c .before .before .before .before .before .before .before .before .before .before .before .before .args .sets .now) (c .before .before .before .before .before .before .before .before .before .loop .i) (c .before .before .before .before .before .before .before .before .loop-test .taken)) ∙ c .before .before .before .before .before .before .before .before .before .loop .inv .2),
-)
+loop-again c =
+    let test = c .before .before .before .before .before .before .before .before in
+    let l = test .before .loop in (
+      search needs,
+      search needs,
+      rw (c .before .before .set .ensures, c .before .before .before .before .wide .ensures .0, c .before .before .before .before .before .before .before .two .ensures .0)
+          (sym (one-patched _ _ (test .before .before .before .before .args .sets .now) (l .i) (test .loop-test .taken)) ∙ l .inv .2),
+    )
 
 returns : tie.Need-returns Inv-loop μ-loop
 returns c = sym (all-patched _ _ (c .before .before .before .before .args .sets .now) (c .before .loop .i) (c .loop-test .left)) ∙ c .before .loop .inv .2

@@ -1,7 +1,7 @@
 -- A file that is accepted is the file of what was read, and that is within its bounds.
 use Prim.Native.Nat.{ℕ, zero, suc, _+_, _*_, _/_, _%_, _<_, _≤_}
 use mathlib.Core.Path.{_≡_, refl, ap, ap₂, sym, subst, subst₂, _∙_}
-use mathlib.Core.Bool.{Bool, true, false, cond, not, _||_}
+use mathlib.Core.Bool.{Bool, true, false, cond, not}
 use mathlib.Core.List.{List, [], _∷_, _++_, append-assoc, append-nil}
 use native.Mathlib.Omega.{arith}
 use lib.ListN.{length, take, drop, length-drop, take-append-drop, drop-of-length-le}
@@ -14,7 +14,7 @@ use Rattle.run.specs.CampaignFile.{greatestValues, numbersOf, longest, a
 use Rattle.run.specs.declared.campaign_file.PagePlace.{PagePlace}
 use Rattle.run.specs.declared.campaign_file.Parsed.{Parsed}
 use Rattle.run.proofs.RecordNumbers.{within-at, flags-back, elements-are}
-use Rattle.run.proofs.CampaignFile.Number.{never, read-same, number-read, number-within, groups-within}
+use Rattle.run.proofs.CampaignFile.Number.{never, read-same, last-shortest, number-read, number-within, groups-within}
 use Rattle.run.proofs.CampaignFile.InTurn.{first-read, none-read, NumbersWithin, numbers-within, PageIs, file-parts}
 
 -- ---- numbers
@@ -64,13 +64,6 @@ shortest-last count last h e = go (eqb last 0) refl (rw (ne-eqb count 1 (omega a
     go : (t : Bool) → eqb last 0 ≡ t → not (eqb last 0) ≡ true → 1 ≤ last
     go true is e = absurd (let z : _≡_ {A = ℕ} 0 1 = cc in omega arith)
     go false is e = let z = eqb-false last 0 is in omega arith
-
-last-shortest : (count last : ℕ) → 1 ≤ last → shortestOf count last ≡ true
-last-shortest count last h = rw (ne-eqb last 0 (omega arith)) (go (eqb count 1))
-  where
-    go : (b : Bool) → b || true ≡ true
-    go true = refl
-    go false = refl
 
 groups-only : (left : ℕ) (l : List ℕ) (value count last : ℕ) → Bytes l → groups left l ≡ whole value count last → shortestOf count last ≡ true
     → l ≡ groupsOf left value ++ drop count l

@@ -8,10 +8,10 @@ use Rattle.run.specs.CampaignFile.{Field, read, refused, refusalNumber, 
 use Rattle.run.specs.declared.campaign_file.Parsed.{Parsed}
 
 -- files that are turned down, each with document 01's number and offset
-record Case : Type 0 where
-  bytes : List ℕ
-  number : ℕ
-  offset : ℕ
+pub record Case : Type 0 where
+  pub bytes : List ℕ
+  pub number : ℕ
+  pub offset : ℕ
 
 abbrev case : List ℕ → ℕ → ℕ → Case
 case bytes number offset = record { bytes = bytes; number = number; offset = offset }
@@ -20,9 +20,9 @@ case bytes number offset = record { bytes = bytes; number = number; offset = off
 abbrev zeros : ℕ → List ℕ → List ℕ
 zeros n bytes = replicate n 0 ++ bytes
 
-cases : List Case
+pub cases : List Case
 cases =
-    -- nothing; an end inside A; A not shortest, not in eight bits; no T
+    -- nothing; an end inside A, after two groups, one and nine; A not shortest, not in eight bits, of over ten groups; no T; a T of 383
     case [] 8 0
     ∷ case (0xFF ∷ 0xFF ∷ []) 8 0
     ∷ case (0x80 ∷ []) 8 0
@@ -52,10 +52,10 @@ agrees : Case → Field Parsed → Bool
 agrees c (read parsed next) = false
 agrees c (refused stop) = eqb (refusalNumber stop) (c .number) && eqb (refusalOffset stop) (c .offset)
 
-all-agree : List Case → Bool
+pub all-agree : List Case → Bool
 all-agree [] = true
 all-agree (c ∷ cs) = agrees c (campaignOf (c .bytes) 0) && all-agree cs
 
-turned-down : T (all-agree cases)
+pub turned-down : T (all-agree cases)
 unfolding all-agree agrees cases campaignOf numbersOf pageOf bytesOf numberOf ended
 turned-down = tt

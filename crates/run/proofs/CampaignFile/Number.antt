@@ -1,12 +1,12 @@
 -- What a number that was read says: its groups, its bounds and its next place.
 use Prim.Native.Nat.{ℕ, zero, suc, _+_, _-_, _<_, _≤_}
 use mathlib.Core.Path.{_≡_, refl, ap, sym, _∙_}
-use mathlib.Core.Bool.{Bool, true, false, cond, _&&_}
+use mathlib.Core.Bool.{Bool, true, false, cond, _&&_, and-eq-true-iff, or-true}
 use mathlib.Core.List.{List, [], _∷_}
 use native.Mathlib.Omega.{arith}
 use lib.ListN.{length, drop, length-drop}
-use lib.Dec.{leb}
-use borrow.Author.Tests.{leb-true}
+use lib.Dec.{leb, eqb}
+use borrow.Author.Tests.{leb-true, ne-eqb}
 use Rattle.run.specs.CampaignFile.{Groups, ends, over, whole, group, groups, Field, read, refused, shortestOf, numberFrom, numberOf}
 use Rattle.run.specs.declared.campaign_file.Refusal.the-variants.{Ends, Unfit}
 
@@ -17,9 +17,9 @@ never {A} {B} {a} {n} {f} r p q = absurd (let z : _≡_ {A = ℕ} 0 1 = cc in om
 pub read-same : {A : Type 0} {a b : A} {m n : ℕ} → read a m ≡ read b n → (a ≡ b) × (m ≡ n)
 read-same e = (cc, cc)
 
-pub both-true : (a b : Bool) → a && b ≡ true → (a ≡ true) × (b ≡ true)
-both-true true b e = (refl, e)
-both-true false b e = (e, absurd (let z : _≡_ {A = ℕ} 0 1 = cc in omega arith))
+-- where the last group is not 0 there are no groups to leave out
+pub last-shortest : (count last : ℕ) → 1 ≤ last → shortestOf count last ≡ true
+last-shortest count last h = rw (ne-eqb last 0 (omega arith)) (or-true (eqb count 1))
 
 -- a number that was read
 pub record NumberRead (greatest : ℕ) (bytes : List ℕ) (at value next : ℕ) : Type 0 where
@@ -38,12 +38,13 @@ number-read greatest bytes at value next e = go (groups 10 (drop at bytes)) refl
         → cond t (read v (at + count)) (refused (Unfit at)) ≡ read value next → NumberRead greatest bytes at value next
     test v count last true g s r =
         let same : v ≡ value = cc in
+        let both = and-eq-true-iff (shortestOf count last) (leb v greatest) .0 s in
         record {
           count = count;
           last = last;
           groups-are = g ∙ ap (λ (x : ℕ). whole x count last) same;
-          shortest = both-true (shortestOf count last) (leb v greatest) s .0;
-          fits = rw (← same) (leb-true v greatest (both-true (shortestOf count last) (leb v greatest) s .1));
+          shortest = both .0;
+          fits = rw (← same) (leb-true v greatest (both .1));
           next-is = cc;
         }
     test v count last false g s r = never (Unfit at) r refl

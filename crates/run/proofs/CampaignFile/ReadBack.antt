@@ -1,16 +1,16 @@
 -- A campaign file that was written from contents within their bounds is read back as these contents.
 use Prim.Native.Nat.{ℕ, zero, suc, _+_, _-_, _*_, _/_, _%_, _^_, _<_, _≤_}
 use mathlib.Core.Path.{_≡_, refl, ap, _∙_}
-use mathlib.Core.Bool.{Bool, true, false, cond, _||_}
+use mathlib.Core.Bool.{true, cond}
 use mathlib.Core.List.{List, [], _∷_, _++_, append-assoc, append-nil}
 use mathlib.Core.Logic.{⊎-elim}
 use native.Mathlib.Nat.{pow-suc, add-zero, zero-add, add-assoc}
 use native.Mathlib.Omega.{arith}
 use lib.ListN.{length, take, drop, replicate, length-append}
 use lib.Seq.{drop-at, take-at}
-use lib.Dec.{ltb, eqb}
+use lib.Dec.{ltb}
 use borrow.Author.Needs.{needs}
-use borrow.Author.Tests.{lt-ltb, le-ltb, le-leb, lt-leb, ne-eqb}
+use borrow.Author.Tests.{lt-ltb, le-ltb, le-leb, lt-leb}
 use Rattle.run.specs.RecordNumbers.{AllWithin}
 use Rattle.run.specs.CampaignFile.{whole, groups, groupsOf, read, Reader, _>>=_, given, shortestOf, numberOf, numberBytes, numbersBytes, pageBytes}
 use Rattle.run.specs.CampaignFile.{greatestValues, numbersOf, longest, bytesOf, pageOf, parsedOf, ended, campaignOf, Contents, fieldsOf, fileOf, Within, contents}
@@ -18,6 +18,7 @@ use Rattle.run.specs.declared.campaign_file.PagePlace.{PagePlace}
 use Rattle.run.specs.declared.campaign_file.Parsed.{Parsed}
 use Rattle.run.proofs.RecordNumbers.{record-in}
 use Rattle.run.proofs.CampaignFile.Groups.{lt-or-ge}
+use Rattle.run.proofs.CampaignFile.Number.{last-shortest}
 
 -- ---- the groups of a number that was written
 
@@ -72,10 +73,6 @@ last-positive (suc left) value low h =
     several : 128 ≤ value → 1 ≤ lastGroup left (value / 128) → 1 ≤ lastGroup (suc left) value
     several g rest = rw (last-later left value g) rest
 
-or-true : (b : Bool) → b || true ≡ true
-or-true true = refl
-or-true false = refl
-
 written-shortest : (value : ℕ) → value < 128 ^ 10 → shortestOf (length (groupsOf 10 value)) (lastGroup 9 value) ≡ true
 written-shortest value h = ⊎-elim one several (lt-or-ge value 128)
   where
@@ -83,9 +80,7 @@ written-shortest value h = ⊎-elim one several (lt-or-ge value 128)
     one g = rw (lt-ltb value 128 g)
 
     several : 128 ≤ value → shortestOf (length (groupsOf 10 value)) (lastGroup 9 value) ≡ true
-    several g =
-        let low : 1 ≤ lastGroup 9 value = last-positive 9 value (omega arith) h in
-        rw (ne-eqb (lastGroup 9 value) 0 (omega arith)) (or-true (eqb (length (groupsOf 10 value)) 1))
+    several g = last-shortest (length (groupsOf 10 value)) (lastGroup 9 value) (last-positive 9 value (omega arith) h)
 
 -- ---- a reader reads back what was written, wherever that stands in the file
 

@@ -1,7 +1,7 @@
 -- A file is turned down exactly for the reasons of `TurnedDown`, at the offset that the refusal names.
 use Prim.Native.Nat.{ℕ, zero, suc, _+_, _-_, _<_, _≤_}
 use mathlib.Core.Path.{_≡_, refl, ap, sym, subst, _∙_}
-use mathlib.Core.Bool.{Bool, true, false, cond, not, _&&_, _||_}
+use mathlib.Core.Bool.{Bool, true, false, cond, not, _&&_, _||_, and-false}
 use mathlib.Core.List.{List, [], _∷_, _++_, map}
 use mathlib.Core.Logic.{_⊎_, inl, inr}
 use native.Mathlib.Omega.{arith}
@@ -141,10 +141,6 @@ number-ended greatest bytes at h =
     go (inr in-file) d =
         rw (ends-groups 10 (drop at bytes) (omega (arith, h .few)) (λ i g. rw (getD-drop at bytes i 0) (h .continued i (omega arith))))
     go (inl past) d = rw (ends-groups 10 (drop at bytes) (omega arith) (λ i g. absurd (omega arith)))
-
-and-false : (b : Bool) → b && false ≡ false
-and-false true = refl
-and-false false = refl
 
 number-unfit : (greatest : ℕ) (bytes : List ℕ) (at : ℕ) → UnfitAt greatest bytes at → numberOf greatest bytes at ≡ refused (Unfit at)
 unfolding numberOf

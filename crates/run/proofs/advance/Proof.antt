@@ -5,16 +5,27 @@ use Rattle.run.proofs.advance.Statement.{statement}
 use Rattle.run.proofs.advance.Tie as tie
 
 instructions-requires : tie.Need-instructions-requires
-instructions-requires c κs = (c .before .before .before .before .before .before .pre .0, sym (c .before .before .before .due .ensures) ∙ c .before .before .if1 .taken, c .before .before .before .before .before .before .pre .1)
+instructions-requires c κs =
+    let d = c .before .before .before in
+    let start = d .before .before .before in
+    (start .pre .0, sym (d .due .ensures) ∙ c .before .before .if1 .taken, start .pre .1)
 
 step-cpu-requires : tie.Need-step-cpu-requires
-step-cpu-requires c κs = (c .before .before .before .before .before .before .pre .0, sym (c .before .before .before .due .ensures) ∙ c .before .before .if1 .left)
+step-cpu-requires c κs =
+    let d = c .before .before .before in
+    (d .before .before .before .pre .0, sym (d .due .ensures) ∙ c .before .before .if1 .left)
 
 returns-2 : tie.Need-returns-2
-returns-2 c = rw (c .open-after .ensures) (one-did (c .before .before .before .before .before .before .before .before .before .before .before .before .before .before .before .pre .1) (c .before .before .before .before .before .before .before .before .before .before .before .before .before .before .before .pre .0) (rw (c .before .before .outcome .given .1) at (c .before .before .before .before .before .before .before .before .step-cpu .ensures)))
+returns-2 c =
+    let s = c .before .before .before .before .before .before .before .before in
+    let start = s .before .before .before .before .before .before .before in
+    rw (c .open-after .ensures) (one-did (start .pre .1) (start .pre .0) (rw (c .before .before .outcome .given .1) at (s .step-cpu .ensures)))
 
 returns-3 : tie.Need-returns-3
-returns-3 c = rw (c .stops-after .ensures) (one-stops (c .before .before .before .before .before .before .before .before .before .before .before .before .before .before .before .pre .1) (rw (c .before .before .outcome2 .given .1) at (c .before .before .before .before .before .before .before .before .step-cpu .ensures)))
+returns-3 c =
+    let s = c .before .before .before .before .before .before .before .before in
+    let start = s .before .before .before .before .before .before .before in
+    rw (c .stops-after .ensures) (one-stops (start .pre .1) (rw (c .before .before .outcome2 .given .1) at (s .step-cpu .ensures)))
 
 pub advance-spec : {M : Type 1} → statement M
 advance-spec =

@@ -13,19 +13,29 @@ returns-2 : tie.Need-returns-2
 returns-2 c = refused-answers _ _ _ (acceptance-page1 _ _ _ (λ h. omega arith) (c .before .if2 .taken)) (c .refused2 .ensures)
 
 returns-3 : tie.Need-returns-3
-returns-3 c = refused-answers _ _ _ (acceptance-timer _ _ _ (λ h. omega arith) (λ h. omega arith) (c .before .if3 .taken)) (c .refused3 .ensures)
+returns-3 c = refused-answers _ _ _ (acceptance-timer _ _ _ (λ h. omega arith) (λ h. omega arith) (omega arith)) (c .refused3 .ensures)
 
 returns-4 : tie.Need-returns-4
 returns-4 c = refused-answers _ _ _ (acceptance-limit _ _ _ (λ h. omega arith) (λ h. omega arith) (λ h. omega arith) (inl (c .before .if4 .taken))) (c .refused4 .ensures)
 
 returns-5 : tie.Need-returns-5
-returns-5 c = refused-answers _ _ _ (acceptance-limit _ _ _ (λ h. omega arith) (λ h. omega arith) (λ h. omega arith) (inr (c .before .if5 .taken))) (c .refused5 .ensures)
+returns-5 c = refused-answers _ _ _ (acceptance-limit _ _ _ (λ h. omega arith) (λ h. omega arith) (λ h. omega arith) (inr (omega arith))) (c .refused5 .ensures)
 
 steps-of-requires : tie.Need-steps-of-requires
 steps-of-requires c κs = (omega arith, omega arith)
 
 returns-6 : tie.Need-returns-6
-returns-6 c = accepted-answers _ _ _ (record { page0 = (λ h. omega arith); page1 = (λ h. omega arith); timer = (λ h. omega arith); limit = ⊎-elim (c .before .before .before .before .before .before .before .before .before .before .if4 .left) (λ h. omega arith) }) (c .before .before .before .before .steps-of .ensures)
+returns-6 c =
+    let steps = c .before .before .before .before in
+    let limit = steps .before .before .before .before .before .before in
+    accepted-answers _ _ _
+    (record {
+      page0 = (λ h. omega arith);
+      page1 = (λ h. omega arith);
+      timer = (λ h. omega arith);
+      limit = ⊎-elim (limit .if4 .left) (λ h. omega arith);
+    })
+    (steps .steps-of .ensures)
 
 pub run-spec : {M : Type 1} → statement M
 run-spec =

@@ -1,6 +1,7 @@
 use Prim.Native.Nat.{_-_}
-use mathlib.Core.Path.{refl, _∙_}
+use mathlib.Core.Path.{_≡_, refl, _∙_}
 use native.Mathlib.Omega.{arith}
+use lib.ListN.{length}
 use borrow.Author.Needs.{needs}
 use Rattle.run.proofs.Loop.{Kept, at-start, small, led-on, led-open, led-stop, at-limit}
 use Rattle.run.proofs.steps_of.Statement.{statement}
@@ -18,31 +19,37 @@ loop-holds c = record { long0 = refl; long1 = refl; going = at-start _ _ _ _ (c 
 advance-requires : tie.Need-advance-requires Inv-loop μ-loop
 advance-requires c κs = (small (c .before .before .before .loop .inv .going), c .before .before .loop-test .taken)
 
+-- the places behind what a stretch of steps led to: its call, the loop's head, and the start
+abbrev call : tie.After-current Inv-loop μ-loop → tie.After-advance Inv-loop μ-loop
+call a = a .before .before .before .before .before
+
+abbrev head : tie.After-current Inv-loop μ-loop → tie.At-loop Inv-loop μ-loop
+head a = call a .before .before .before .before
+
+abbrev start : tie.After-current Inv-loop μ-loop → tie.Start Inv-loop μ-loop
+start a = head a .before .before .before
+
+-- the lent pages keep their lengths
+long0 : (a : tie.After-current Inv-loop μ-loop) → length (call a .advance .last .1 .0) ≡ length (start a .args .page0 .now)
+long0 a = call a .advance .kept .1 .0 ∙ head a .loop .inv .long0
+
+long1 : (a : tie.After-current Inv-loop μ-loop) → length (call a .advance .last .1 .1 .0) ≡ length (start a .args .page1 .now)
+long1 a = call a .advance .kept .1 .1 .0 ∙ head a .loop .inv .long1
+
 loop-less : tie.Need-loop-less Inv-loop μ-loop
-loop-less c = omega (arith, led-open (c .before .before .before .before .before .before .before .advance .ensures) (c .enum-told .given .1), c .before .before .before .before .before .before .before .advance .ensures .within)
+loop-less c =
+    let d = call (c .before .before) .advance .ensures in
+    omega (arith, led-open d (c .enum-told .given .1))
 
 loop-again : tie.Need-loop-again Inv-loop μ-loop
 loop-again c =
-    record {
-      long0 = c .before .before .before .before .before .before .before .advance .kept .1 .0 ∙ c .before .before .before .before .before .before .before .before .before .before .before .loop .inv .long0;
-      long1 = c .before .before .before .before .before .before .before .advance .kept .1 .1 .0 ∙ c .before .before .before .before .before .before .before .before .before .before .before .loop .inv .long1;
-      going = led-on (c .before .before .before .before .before .before .before .before .before .before .before .loop .inv .going) (c .before .before .before .before .before .before .before .advance .ensures);
-    }
-
-same-length : tie.Need-same-length Inv-loop μ-loop
-same-length c = c .before .before .before .before .before .before .before .before .before .advance .kept .1 .0 ∙ c .before .before .before .before .before .before .before .before .before .before .before .before .before .loop .inv .long0
-
-same-length-2 : tie.Need-same-length-2 Inv-loop μ-loop
-same-length-2 c = c .before .before .before .before .before .before .before .before .before .advance .kept .1 .1 .0 ∙ c .before .before .before .before .before .before .before .before .before .before .before .before .before .loop .inv .long1
+    let a = c .before .before in
+    record { long0 = long0 a; long1 = long1 a; going = led-on (head a .loop .inv .going) (call a .advance .ensures) }
 
 returns : tie.Need-returns Inv-loop μ-loop
-returns c = rw (c .answered .ensures) (led-stop (c .before .before .before .before .before .before .before .before .before .before .before .before .before .loop .inv .going) (c .before .before .before .before .before .before .before .before .before .before .before .before .before .before .before .before .pre .1) (c .before .before .before .before .before .before .before .before .before .advance .ensures) (c .before .before .ahead .given .1))
-
-same-length-3 : tie.Need-same-length-3 Inv-loop μ-loop
-same-length-3 c = c .before .before .loop .inv .long0
-
-same-length-4 : tie.Need-same-length-4 Inv-loop μ-loop
-same-length-4 c = c .before .before .loop .inv .long1
+returns c =
+    let a = c .before .before .before .before in
+    rw (c .answered .ensures) (led-stop (head a .loop .inv .going) (start a .pre .1) (call a .advance .ensures) (c .before .before .ahead .given .1))
 
 returns-2 : tie.Need-returns-2 Inv-loop μ-loop
 returns-2 c = rw (c .answered2 .ensures) (at-limit (c .before .before .loop .inv .going) (c .before .loop-test .left) (c .before .before .before .before .before .pre .1))
@@ -50,5 +57,6 @@ returns-2 c = rw (c .answered2 .ensures) (at-limit (c .before .before .loop .inv
 pub steps-of-spec : {M : Type 1} → statement M
 steps-of-spec =
     tie.close
-    (tie.spec Inv-loop μ-loop loop-holds advance-requires (λ c. search needs) loop-less loop-again (λ c. search needs) (λ c κs. search needs) same-length
-    same-length-2 returns (λ c κs. search needs) same-length-3 same-length-4 returns-2)
+    (tie.spec Inv-loop μ-loop loop-holds advance-requires (λ c. search needs) loop-less loop-again (λ c. search needs) (λ c κs. search needs)
+    (λ c. long0 (c .before .before .before .before)) (λ c. long1 (c .before .before .before .before)) returns
+    (λ c κs. search needs) (λ c. c .before .before .loop .inv .long0) (λ c. c .before .before .loop .inv .long1) returns-2)

@@ -27,7 +27,16 @@ read-campaign-spec =
     (λ c κs. search needs) (λ c. search needs) (λ c. search needs) (λ c κs. search needs)
     (λ c. rw (values-read (c .before .before .before .before) .is, refusal-handed pageField pageStop (c .before .before .before .page .ensures) (c .before .enum-told2 .given .1) (c .stop2 .ensures) refl))
     (λ c κs. search needs) (λ c. search needs) (λ c. search needs) (λ c κs. search needs)
-    (λ c. rw (values-read (c .before .before .before .before .before .before .before .before) .is, page0-read (c .before .before .before .before) .is, refusal-handed pageField pageStop (c .before .before .before .page2 .ensures) (c .before .enum-told3 .given .1) (c .stop3 .ensures) refl))
-    (λ c. rw (values-read (c .before .before .before .before .before .before .before .before .before) .is, page0-read (c .before .before .before .before .before) .is, page1-read (c .before) .is, lt-ltb _ _ (c .if1 .taken)))
-    (λ c κs. numbers-within greatestValues _ _ _ _ (values-read (c .before .before .before .before .before .before .before .before .before .before) .is) .within)
-    (λ c. rw (values-read (c .before .before .before .before .before .before .before .before .before .before .before) .is, page0-read (c .before .before .before .before .before .before .before) .is, page1-read (c .before .before .before) .is, le-ltb _ _ (c .before .before .if1 .left), c .parsed-of .ensures)))
+    (λ c.
+    let first = c .before .before .before .before in
+    rw (values-read (first .before .before .before .before) .is, page0-read first .is, refusal-handed pageField pageStop (c .before .before .before .page2 .ensures) (c .before .enum-told3 .given .1) (c .stop3 .ensures) refl))
+    (λ c.
+    let first = c .before .before .before .before .before in
+    rw (values-read (first .before .before .before .before) .is, page0-read first .is, page1-read (c .before) .is, lt-ltb _ _ (c .if1 .taken)))
+    (λ c κs.
+    let first = c .before .before .before .before .before .before in
+    numbers-within greatestValues _ _ _ _ (values-read (first .before .before .before .before) .is) .within)
+    (λ c.
+    let second = c .before .before .before in
+    let first = second .before .before .before .before in
+    rw (values-read (first .before .before .before .before) .is, page0-read first .is, page1-read second .is, le-ltb _ _ (c .before .before .if1 .left), c .parsed-of .ensures)))

@@ -15,17 +15,21 @@ put-registers-requires c κs =
 
 put-counters-requires : tie.Need-put-counters-requires
 put-counters-requires c κs =
-    let a = c .before .before .before .before .before .before .before .before .before .before .args in
-    let p1 = c .before .before .before .before .before .before .before .put-counts .ensures in
-    let p2 = c .before .before .before .put-registers .ensures in
+    let registers = c .before .before .before in
+    let counts = registers .before .before .before .before in
+    let a = counts .before .before .before .args in
+    let p1 = counts .put-counts .ensures in
+    let p2 = registers .put-registers .ensures in
     omega (arith, counts-next (a .number) (a .steps) (a .states) p1, put-length p1, registers-next (a .cpu) p2, put-length p2)
 
 returns : tie.Need-returns
 unfolding lineOf
 returns c =
-    let a = c .before .before .before .before .before .before .before .before .before .before .before .before .before .args in
-    let p1 = c .before .before .before .before .before .before .before .before .before .before .put-counts .ensures in
-    let p2 = c .before .before .before .before .before .before .put-registers .ensures in
+    let registers = c .before .before .before .before .before .before in
+    let counts = registers .before .before .before .before in
+    let a = counts .before .before .before .args in
+    let p1 = counts .put-counts .ensures in
+    let p2 = registers .put-registers .ensures in
     let p3 = c .before .before .put-counters .ensures in
     printed (simp append-assoc at (put-then (put-then p1 p2) p3))
     (omega (arith, counts-next (a .number) (a .steps) (a .states) p1, registers-next (a .cpu) p2, counters-next (a .cpu) p3))

@@ -6,9 +6,17 @@ use Rattle.run.proofs.report.file_answer.Tie as tie
 
 returns : tie.Need-returns
 returns c =
-    let s = c .before .before .before .before .before .before .before .before .before .before .before .before .before .before .before in
+    let settings = c .before .before .before .before .before in
+    let second = settings .before .before .before .before in
+    let first = second .before .before .before in
+    let start = first .before .before .before in
     c .before .before .run-parts .ensures .answer
-    ∙ rw (c .before .before .before .before .before .settings-of .ensures, copied _ _ _ _ (c .before .before .before .before .before .before .before .before .before .before .before .before .copy-part .ensures) (s .pre .0 .0) (search needs), copied _ _ _ _ (c .before .before .before .before .before .before .before .before .before .copy-part2 .ensures) (s .pre .1 .0) (search needs)) refl
+    ∙ rw (
+      settings .settings-of .ensures,
+      copied _ _ _ _ (first .copy-part .ensures) (start .pre .0 .0) (search needs),
+      copied _ _ _ _ (second .copy-part2 .ensures) (start .pre .1 .0) (search needs),
+    )
+    refl
 
 pub file-answer-spec : {M : Type 1} → statement M
 file-answer-spec =

@@ -1,7 +1,7 @@
 -- What decides whether an instruction is due, and what counts time, over the operations on the registers.
 use mathlib.Core.Bool.{Bool, true, false}
 use mathlib.Core.Path.{_≡_, refl, ap, _∙_}
-use Prim.Native.Nat.{ℕ, _+_, _-_, _*_, _/_, _%_}
+use Prim.Native.Nat.{ℕ, _-_, _*_, _/_, _%_}
 use native.Mathlib.Omega.{arith}
 use lib.Dec.{eqb}
 use lib.Bits.{bitAnd, bitOr, bitXor, and-high, and-mask, and-shr, and-mod, or-shr, or-mod, or-zero-r}

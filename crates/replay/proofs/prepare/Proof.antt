@@ -6,7 +6,8 @@ use Rattle.replay.proofs.prepare.Tie as tie
 returns : tie.Need-returns
 unfolding prepareOf
 returns c =
-    rw (c .before .before .patch .ensures, c .before .before .before .before .before .before .copy-page .ensures, c .before .before .before .before .before .before .before .before .before .before .fill .ensures)
+    let copied = c .before .before .before .before .before .before in
+    rw (c .before .before .patch .ensures, copied .copy-page .ensures, copied .before .before .before .before .fill .ensures)
 
 pub prepare-spec : {M : Type 1} → statement M
 prepare-spec =

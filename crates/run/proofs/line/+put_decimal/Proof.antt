@@ -41,5 +41,6 @@ pub +put-decimal-spec : {M : Type 1} → statement M
     (λ c. rw (decimal-one (c .before .before .before .before .before .before .args .value) (omega arith)) (c .before .before .put .ensures))
     (λ c. put-length (c .before .before .put2 .ensures) ∙ put-length (c .before .before .before .before .before .before .put-decimal .ensures))
     (λ c.
-    let v = c .before .before .before .before .before .before .before .before .before .before .args .value in
-    rw (decimal-more v (omega arith) (omega arith)) (put-then (c .before .before .before .before .before .before .put-decimal .ensures) (c .before .before .put2 .ensures)))
+    let more = c .before .before .before .before .before .before in
+    let v = more .before .before .before .before .args .value in
+    rw (decimal-more v (omega arith) (omega arith)) (put-then (more .put-decimal .ensures) (c .before .before .put2 .ensures)))

@@ -39,6 +39,8 @@ unfolding hexOf
     (λ c. rw (c .if1 .taken) (put-none (now (c .before .before .args .buffer)) (c .before .before .args .at)))
     (λ c. put-length (c .before .before .put .ensures) ∙ put-length (c .before .before .before .before .before .before .before .put-hex .ensures))
     (λ c.
-    let a = c .before .before .before .before .before .before .before .before .before .before .before .args in
-    rw (hex-more (a .digits) (a .value) (c .before .before .before .before .before .before .before .before .before .if1 .left), ← c .before .before .before .before .hex-digit .ensures)
-    (put-then (c .before .before .before .before .before .before .before .put-hex .ensures) (c .before .before .put .ensures)))
+    let more = c .before .before .before .before .before .before .before in
+    let test = more .before .before in
+    let a = test .before .before .args in
+    rw (hex-more (a .digits) (a .value) (test .if1 .left), ← c .before .before .before .before .hex-digit .ensures)
+    (put-then (more .put-hex .ensures) (c .before .before .put .ensures)))

@@ -6,7 +6,11 @@ use Rattle.pages.proofs.push_state.Tie as tie
 
 returns : tie.Need-returns
 unfolding pushStateOf
-returns c = does-then _ (c .before .before .before .before .before .before .before .before .before .before .before .before .before .push .ensures) (rw (c .before .before .before .before .before .before .before .with-t .ensures, c .before .before .before .before .before .before .before .before .set-flag .ensures) at (c .before .before .before .before .push-word .ensures))
+returns c =
+    let cleared = c .before .before .before .before .before .before .before in
+    let pushed = cleared .before .before .before .before .before .before in
+    does-then _ (pushed .push .ensures)
+    (rw (cleared .with-t .ensures, cleared .before .set-flag .ensures) at (c .before .before .before .before .push-word .ensures))
 
 pub push-state-spec : {M : Type 1} → statement M
 push-state-spec =

@@ -9,7 +9,7 @@ use borrow.Author.Tests.{eq-eqb, ne-eqb}
 use Rattle.arithmetic.specs.Flags.{bitOf}
 use Rattle.arithmetic.specs.Shifts.{loopedOf}
 use Rattle.arithmetic.specs.declared.Looped.{Looped}
-use Rattle.arithmetic.proofs.Compute.{every, at}
+use Rattle.arithmetic.proofs.Compute.{every, test-at}
 
 -- a byte, cut to a byte
 pub byte-cut : {b : ℕ} → b < 256 → b ≡ b % 256
@@ -26,8 +26,8 @@ overs = tt
 pub over : (i n : ℕ) → i < 9 → n < 2 * 2 ^ i → n / 2 ^ i ≡ bitOf (leb (2 ^ i) n)
 over i n hi hn =
     eqb→eq _ _
-    (at (λ n. eqb (n / 2 ^ i) (bitOf (leb (2 ^ i) n))) (2 * 2 ^ i)
-    (at (λ i. every (λ n. eqb (n / 2 ^ i) (bitOf (leb (2 ^ i) n))) 0 (2 * 2 ^ i)) 9 overs i hi) n hn)
+    (test-at (λ n. eqb (n / 2 ^ i) (bitOf (leb (2 ^ i) n))) (2 * 2 ^ i)
+    (test-at (λ i. every (λ n. eqb (n / 2 ^ i) (bitOf (leb (2 ^ i) n))) 0 (2 * 2 ^ i)) 9 overs i hi) n hn)
 
 -- the carries out of a sum of two bytes and out of their low digits
 module _ (left right c : ℕ) (hl : left < 256) (hr : right < 256) (hc : c ≤ 1) where
@@ -49,9 +49,9 @@ pub both-differ : {a b r : ℕ} → a < 2 → b < 2 → r < 2 → bitAnd (bitXor
 unfolding differ
 both-differ {a} {b} {r} ha hb hr =
     eqb→eq _ _
-    (at (λ r. differ a b r) 2
-    (at (λ b. every (λ r. differ a b r) 0 2) 2
-    (at (λ a. every (λ b. every (λ r. differ a b r) 0 2) 0 2) 2 all-differ a ha) b hb) r hr)
+    (test-at (λ r. differ a b r) 2
+    (test-at (λ b. every (λ r. differ a b r) 0 2) 2
+    (test-at (λ a. every (λ b. every (λ r. differ a b r) 0 2) 0 2) 2 all-differ a ha) b hb) r hr)
 
 -- bit 7 of a byte
 pub top-bit : (b : ℕ) → b < 256 → b / 128 < 2

@@ -49,5 +49,5 @@ from f (suc n) i t (suc k) h =
     (from f n (suc i) (both-right (f i) (every f (suc i) n) t) k (le-of-suc-le-suc h))
 
 -- what the test says, at each number below n
-pub at : (f : ℕ → Bool) (n : ℕ) → T (every f 0 n) → (k : ℕ) → k < n → T (f k)
-at f n t k h = subst (λ (m : ℕ). T (f m)) (zero-add k) (from f n 0 t k h)
+pub test-at : (f : ℕ → Bool) (n : ℕ) → T (every f 0 n) → (k : ℕ) → k < n → T (f k)
+test-at f n t k h = subst (λ (m : ℕ). T (f m)) (zero-add k) (from f n 0 t k h)

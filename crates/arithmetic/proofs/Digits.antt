@@ -8,7 +8,7 @@ use borrow.Author.Tests.{le-leb, lt-leb}
 use Rattle.arithmetic.specs.Flags.{CF, bitOf, hasFlag}
 use Rattle.arithmetic.specs.Sums.{total, addOf, inverted}
 use Rattle.arithmetic.specs.Decimal.{plus66, adjust, decimalSumOf, dcaSum, dcsSum, Digits, valueOf, DcaDigits, DcsDigits}
-use Rattle.arithmetic.proofs.Compute.{both, both-left, both-right, atBoth, at-bool, every, at}
+use Rattle.arithmetic.proofs.Compute.{both, both-left, both-right, atBoth, at-bool, every, test-at}
 use Rattle.arithmetic.proofs.Flags.{add-flags}
 
 -- what a decimal sum gives, with C and H put as the tests of the sum that they are
@@ -53,7 +53,7 @@ column m n h = omega arith
 anywhere : (f : ℕ → ℕ → Bool → Bool) → T (everywhere f) → (m n : ℕ) → m < 100 → n < 100 → (c : Bool) → T (f m n c)
 anywhere f all m n hm hn c =
     rw (row m n hn, column m n hn)
-    at (at-bool (f ((m * 100 + n) / 100) ((m * 100 + n) % 100)) (at (λ k. atBoth (f (k / 100) (k % 100))) 10000 all (m * 100 + n) (omega arith)) c)
+    at (at-bool (f ((m * 100 + n) / 100) ((m * 100 + n) % 100)) (test-at (λ k. atBoth (f (k / 100) (k % 100))) 10000 all (m * 100 + n) (omega arith)) c)
 
 -- the byte v has valid digits
 valid : ℕ → Bool

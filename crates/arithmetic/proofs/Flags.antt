@@ -12,7 +12,7 @@ use Rattle.arithmetic.specs.Decimal.{decimalSumOf}
 use Rattle.arithmetic.specs.Logic.{ldaOf, ttaOf}
 use Rattle.arithmetic.specs.Record.{with-a, with-t}
 use Rattle.arithmetic.specs.declared.record.Lh5801.{Lh5801}
-use Rattle.arithmetic.proofs.Compute.{both, both-left, both-right, same, same-eq, atBoth, at-bool, every, at}
+use Rattle.arithmetic.proofs.Compute.{both, both-left, both-right, same, same-eq, atBoth, at-bool, every, test-at}
 
 -- all that FlagsAre says, as a test
 flags-hold : ℕ → Bool → Bool → Bool → Bool → Bool
@@ -35,7 +35,7 @@ module _ (t : ℕ) (small : t < 256) (c z v h : Bool) where
       (at-bool (λ v. atBoth (λ h. flags-hold t c z v h))
       (at-bool (λ z. atBoth (λ v. atBoth (λ h. flags-hold t c z v h)))
       (at-bool (λ c. atBoth (λ z. atBoth (λ v. atBoth (λ h. flags-hold t c z v h))))
-      (at (λ t. atBoth (λ c. atBoth (λ z. atBoth (λ v. atBoth (λ h. flags-hold t c z v h))))) 256 all-flags-hold t small) c) z) v) h
+      (test-at (λ t. atBoth (λ c. atBoth (λ z. atBoth (λ v. atBoth (λ h. flags-hold t c z v h))))) 256 all-flags-hold t small) c) z) v) h
 
   pub flags-are : FlagsAre t c z v h (withFlags t c z v h)
   unfolding flags-hold
@@ -75,7 +75,7 @@ pub only-flag : (i t : ℕ) → i < 8 → t < 256 → (v : Bool) → OnlyFlag t 
 unfolding kept
 only-flag i t hi ht v =
     let k : T (kept t (2 ^ i) v) =
-    at-bool (kept t (2 ^ i)) (at (λ t. atBoth (kept t (2 ^ i))) 256 (at (λ i. every (λ t. atBoth (kept t (2 ^ i))) 0 256) 8 all-kept i hi) t ht) v in
+    at-bool (kept t (2 ^ i)) (test-at (λ t. atBoth (kept t (2 ^ i))) 256 (test-at (λ i. every (λ t. atBoth (kept t (2 ^ i))) 0 256) 8 all-kept i hi) t ht) v in
     record {
       given = same-eq _ _ (both-left (same (hasFlag (setFlag t (2 ^ i) v) (2 ^ i)) v) _ k);
       others = eqb→eq _ _ (both-right (same (hasFlag (setFlag t (2 ^ i) v) (2 ^ i)) v) _ k);

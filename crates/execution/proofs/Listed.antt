@@ -7,7 +7,7 @@ use mathlib.Core.List.{List, [], _∷_}
 use mathlib.Core.Path.{_≡_, refl, sym, subst}
 use lib.Dec.{T, ltb, leb, leb→le}
 use lib.ListN.{length, getD, List·getD-eq-default}
-use Rattle.arithmetic.proofs.Compute.{both, both-left, both-right, every, at}
+use Rattle.arithmetic.proofs.Compute.{both, both-left, both-right, every, test-at}
 use Rattle.execution.specs.declared.instructions.Instruction.{Instruction}
 use Rattle.execution.specs.declared.instructions.Decoded.{Decoded}
 use Rattle.execution.specs.declared.instructions.Decoded.the-variants.{Listed, Unlisted}
@@ -72,7 +72,7 @@ entry-at : (test : Decoded → Bool) (page : ℕ → Decoded) → T (every (λ (
 entry-at test page all none past byte e = subst (λ (d : Decoded). T (test d)) e (go (ltb byte 256) refl)
   where
     go : (b : Bool) → ltb byte 256 ≡ b → T (test (page byte))
-    go true h = at (λ (b : ℕ). test (page b)) 256 all byte (ltb-true byte 256 h)
+    go true h = test-at (λ (b : ℕ). test (page b)) 256 all byte (ltb-true byte 256 h)
     go false h = subst (λ (d : Decoded). T (test d)) (sym (past byte (ltb-false byte 256 h))) none
 
 states-fit : (i : Instruction) (n : ℕ) → T (statesFit (Listed i n)) → (4 ≤ n) × (n + addedWhenTaken i ≤ 23)

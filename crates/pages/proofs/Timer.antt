@@ -9,7 +9,7 @@ use borrow.Author.Tests.{le-leb, lt-leb}
 use Rattle.arithmetic.specs.declared.record.Lh5801.{Lh5801}
 use Rattle.arithmetic.specs.Record.{with-tm, with-timer-state, with-step-previous-state}
 use Rattle.arithmetic.proofs.Status.{Status, statusOf, withTimer, withTicks, keeps-previous, keeps-states, status-tm, status-reached, status-ticks}
-use Rattle.arithmetic.proofs.Compute.{both, both-left, both-right, every, at as test-at}
+use Rattle.arithmetic.proofs.Compute.{both, both-left, both-right, every, test-at}
 use Rattle.pages.specs.Timer.{shiftOf, timerIncOf, addStateOf, passedOf, timerPartOf}
 
 halves : ℕ → Bool

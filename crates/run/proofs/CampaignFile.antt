@@ -34,5 +34,6 @@ accepted-iff bytes c next bs = (only, back)
     back : (bytes ≡ fileOf c) × Within c × (next ≡ length bytes) → contents bytes ≡ read c next
     back h = subst (λ (l : List ℕ). contents l ≡ read c (length l)) (sym (h .0)) (read-back c (h .1)) ∙ ap (read c) (sym (h .2))
 
+-- a file is turned down exactly for a reason of `TurnedDown`, with that refusal
 pub refused-iff : (bytes : List ℕ) (stop : Refusal) → (campaignOf bytes 0 ≡ refused stop) ↔ TurnedDown bytes stop
 refused-iff bytes stop = (refused-for bytes stop, refused-so bytes stop)

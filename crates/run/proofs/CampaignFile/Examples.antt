@@ -38,7 +38,7 @@ cases =
     ∷ case (zeros 9 (replicate 9 0xFF ++ (0x02 ∷ []))) 9 9
     ∷ case (zeros 9 (replicate 9 0xFF ++ (0x81 ∷ []))) 9 9
     ∷ case (zeros 13 (0x80 ∷ 0x80 ∷ 0x80 ∷ 0x80 ∷ 0x10 ∷ [])) 9 13
-    -- page 0 of 16,385 bytes, of 16,384 with none there, of two with one there; no page 1; a byte left over
+    -- page 0 of 16,385 bytes, of 16,384 with none there, of two with one there; no page 1; page 1 of one byte with none there; a byte left over
     ∷ case (zeros 14 (0x81 ∷ 0x80 ∷ 0x01 ∷ [])) 9 14
     ∷ case (zeros 14 (0x80 ∷ 0x80 ∷ 0x01 ∷ [])) 8 17
     ∷ case (zeros 14 (0x02 ∷ 0x00 ∷ [])) 8 15

@@ -91,7 +91,7 @@ tta-all = tt
 
 pub tta-z : (m : Lh5801) → m .t < 256 → ttaOf m .t ≡ cond (eqb (m .t) 4) 4 (bitAnd (m .t) 0xFB)
 unfolding ttaOf ldaOf with-a with-t tta-holds
-tta-z m small = eqb→eq _ _ (at tta-holds 256 tta-all (m .t) small)
+tta-z m small = eqb→eq _ _ (test-at tta-holds 256 tta-all (m .t) small)
 
 -- the flags of a decimal sum are those of the sum before the correction
 pub decimal-flags : (t left right : ℕ) (carry : Bool) → decimalSumOf t left right carry .t ≡ addOf t left right carry .t

@@ -1,11 +1,19 @@
 /*
- * lh5801.h: the one entry of the static library liblh5801.a, the instruction unit of the LH5801.
+ * lh5801.h: the run call of the static library liblh5801.a, the instruction unit of the LH5801.
  *
  * "Document 01" is the requirement that the unit is proved against; the numbers below are its own.
+ * "F-1" is a request of document 02, which came after it.
  * `rt staticlib lh5801` at the repository's top writes target/staticlib/liblh5801.a for x86-64.
  * Usable from C (C99 and later) and C++.
  *
  *   cc -I include program.c target/staticlib/liblh5801.a
+ *
+ * The run call
+ *
+ * lh5801_run does document 01's run and nothing else. lh5801_run_with takes the same and the requests
+ * of document 02 in a struct of settings. Both are inline functions over lh5801_call, the archive's
+ * one exported function: it has a parameter for each setting, and later requests add to it. From
+ * another language than C and C++ call lh5801_call.
  *
  * The record
  *
@@ -43,6 +51,19 @@
  * is not null; nothing is read or written through it. A page longer than 65,536 bytes is answered
  * with 1 or 2, and is not touched.
  *
+ * The settings
+ *
+ *   limit      the greatest number of steps, 1 to 1,000,000
+ *   keyboard   the byte that ITA (FD BA) reads
+ *   idle       F-1, the idle figure, 0 to 255. With 0 a halted step stops with 7. With 1 to 255 it
+ *              waits, and is a completed step: timer reached moves to IR1 as in any step with BF set,
+ *              so many states are added to the timer states and the ticks, and the timer part is
+ *              done, with one shift at most. It reads and writes nothing. With IE set and TM not 0
+ *              the timer wakes the unit so.
+ *
+ * A setting of zero asks for nothing: a struct with its limit and keyboard byte set and zeros
+ * elsewhere gives what lh5801_run gives. lh5801_run_with changes nothing in the struct.
+ *
  * What the caller has to see to
  *
  * - No pointer is null. `words` is aligned as uint64_t is; the pages need no alignment.
@@ -61,7 +82,8 @@
  *     3     TM is above 511
  *     4     the limit is 0 or above 1,000,000
  *   then in each step
- *     7     after interrupts: BF is set, the unit is halted, IR0 is clear, no interrupt is accepted
+ *     7     after interrupts: BF is set, the unit is halted, IR0 is clear, no interrupt is accepted,
+ *           and the idle figure is 0
  *     5     the opcode read is unlisted
  *     6     the byte after FD is unlisted
  *   and
@@ -132,12 +154,38 @@ enum {
     LH5801_STOPPED_HALTED = 7
 };
 
+/* What a run call is given besides the record and the pages; see "The settings" above. */
+struct lh5801_settings {
+    uint32_t limit;
+    uint8_t keyboard;
+    uint8_t idle;
+};
+
+/* The run call, with a parameter for each setting: the archive's one exported function. */
+void lh5801_call(uint64_t words[16], uint8_t *page0, size_t length0, uint8_t *page1, size_t length1,
+                 uint32_t limit, uint8_t keyboard, uint8_t idle);
+
+/*
+ * Runs the unit for at most `settings->limit` steps from the record in `words`, over the two pages,
+ * with these settings.
+ */
+static inline void lh5801_run_with(uint64_t words[16], uint8_t *page0, size_t length0,
+                                   uint8_t *page1, size_t length1,
+                                   struct lh5801_settings *settings)
+{
+    lh5801_call(words, page0, length0, page1, length1, settings->limit, settings->keyboard,
+                settings->idle);
+}
+
 /*
  * Runs the unit for at most `limit` steps (1 to 1,000,000) from the record in `words`, over the two
  * pages. `keyboard` is the byte that ITA (FD BA) reads.
  */
-void lh5801_run(uint64_t words[16], uint8_t *page0, size_t length0, uint8_t *page1, size_t length1,
-                uint8_t keyboard, uint32_t limit);
+static inline void lh5801_run(uint64_t words[16], uint8_t *page0, size_t length0, uint8_t *page1,
+                              size_t length1, uint8_t keyboard, uint32_t limit)
+{
+    lh5801_call(words, page0, length0, page1, length1, limit, keyboard, 0);
+}
 
 #ifdef __cplusplus
 }

@@ -1,11 +1,16 @@
-//! Finds the original `lh5801.rs` and, with the features `probe` and `port`, the port's static
-//! libraries.
+//! Finds the original `lh5801.rs`, changes its one named place, and finds, with the features `probe`
+//! and `port`, the port's static libraries.
 
 use std::env;
+use std::fs;
 use std::path::{Path, PathBuf};
 use std::process::exit;
 
 const DEFAULT_ORIGINAL: &str = "../../shared/docs/src/ceres-core/src/lh5801.rs";
+/// The head of the one definition that gets another name, and that name's head: the harness has a
+/// `halted_states` of its own (src/unit.rs). The rest of the file is included unchanged.
+const HEAD: &str = "fn halted_states(";
+const RENAMED_HEAD: &str = "fn halted_states_of_the_original(";
 const DEFAULT_LIBRARY_DIR: &str = "../target/staticlib";
 const DEFAULT_PORT_NAME: &str = "lh5801";
 
@@ -24,22 +29,43 @@ fn variable(name: &str) -> Option<String> {
     env::var(name).ok().filter(|value| !value.is_empty())
 }
 
-/// Tells the compiler where the original file is.
+/// Finds the original file, and tells the compiler where it is and where its changed text is.
 fn original(here: &Path) {
     let path = variable("LH5801_RS").map_or_else(|| here.join(DEFAULT_ORIGINAL), PathBuf::from);
     println!("cargo:rerun-if-changed={}", path.display());
     match path.canonicalize() {
         Ok(full) if full.is_file() => {
             println!("cargo:rerun-if-changed={}", full.display());
-            println!("cargo:rustc-env=LH5801_RS_PATH={}", full.display());
+            println!("cargo:rustc-env=LH5801_RS_GIVEN={}", full.display());
+            println!("cargo:rustc-env=LH5801_RS_PATH={}", changed(&full).display());
         }
         _ => fail(&format!(
-            "The oracle includes the original file lh5801.rs unchanged, and it is not at {}. \
-             Put the document there, or name another place in the environment variable LH5801_RS \
-             (an absolute path), and build again.",
+            "The oracle includes the original file lh5801.rs, and it is not at {}. Put the \
+             document there, or name another place in the environment variable LH5801_RS (an \
+             absolute path), and build again.",
             path.display()
         )),
     }
+}
+
+/// Writes the original's text with the one definition renamed, and tells where.
+fn changed(original: &Path) -> PathBuf {
+    let text = fs::read_to_string(original)
+        .unwrap_or_else(|error| fail(&format!("{}: {error}", original.display())));
+    let count = text.matches(HEAD).count();
+    if count != 1 {
+        fail(&format!(
+            "The oracle renames one definition of the original file lh5801.rs, that with the head \
+             `{HEAD}`, so that a halted step gives the idle figure. In {} this head occurs {count} \
+             times, and it has to occur exactly once: is this the original file?",
+            original.display()
+        ));
+    }
+    let folder = PathBuf::from(env::var("OUT_DIR").expect("cargo sets OUT_DIR"));
+    let place = folder.join("lh5801.rs");
+    fs::write(&place, text.replace(HEAD, RENAMED_HEAD))
+        .unwrap_or_else(|error| fail(&format!("{}: {error}", place.display())));
+    place
 }
 
 /// Links `libprobe.a`.

@@ -70,6 +70,13 @@ impl Arguments {
         }
     }
 
+    /// The one word, a number that may not be 0, or this one without the word.
+    pub fn positive_word(&self, what: &str, without: u64) -> Result<u64, String> {
+        let Some(text) = self.positional(1)? else { return Ok(without) };
+        let number = text.parse().ok().filter(|number| *number > 0);
+        number.ok_or_else(|| format!("not {what} above 0: {text}"))
+    }
+
     pub fn count(&self) -> Result<u64, String> {
         let text = self.positional(1)?.ok_or("a number of calls is missing")?;
         text.parse().map_err(|_| format!("not a number of calls: {text}"))

@@ -5,7 +5,7 @@
 
 use std::thread;
 
-use crate::call::Record;
+use crate::call::{Inputs, Record};
 use crate::original::Pc1500;
 use crate::probe;
 use crate::progress::Progress;
@@ -90,7 +90,7 @@ impl Sweep {
 
 /// A machine for calls of the private methods; its memory is not touched.
 fn machine() -> Pc1500 {
-    Pc1500::new(&Record::default(), 0, [vec![], vec![]])
+    Pc1500::new(&Record::default(), Inputs::default(), [vec![], vec![]])
 }
 
 /// The number and name of each function of `probe_arithmetic`.
@@ -140,7 +140,7 @@ fn by_step(function: u32, a: u8, t: u8, operand: u8) -> u32 {
     };
     let record = Record { a, t, x: 2, bf: true, ..Record::default() };
     let page = vec![code[0], code[1], operand];
-    let mut machine = Pc1500::new(&record, 0, [page, vec![]]);
+    let mut machine = Pc1500::new(&record, Inputs::default(), [page, vec![]]);
     machine.step_cpu();
     let after = machine.lh5801.record();
     let (pages, _) = machine.memory.finish(1);

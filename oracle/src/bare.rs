@@ -1,9 +1,10 @@
-//! The original `lh5801.rs`, included unchanged, over a flat memory without a log.
+//! The original `lh5801.rs`, included unchanged but for one name, over a flat memory without a log.
 //!
 //! This is the cheap way to run it: for long differential runs and for measuring. The harness with
 //! a log, in which stops 5 and 6 are the original's own panics, is `original.rs` of the program.
 //! Here a run call looks at the byte that would be executed before each step and stops by the
-//! table of listed bytes, so that nothing panics.
+//! table of listed bytes, so that nothing panics. In both, `halted_states` is the harness's own and
+//! gives the idle figure.
 
 #![forbid(unsafe_code)]
 
@@ -13,7 +14,7 @@ pub mod opcodes;
 use std::sync::OnceLock;
 
 pub use self::lh5801::Lh5801;
-use call::{refusal, Record};
+use call::{refusal, Inputs, Record};
 
 /// The included file. Only code of this module reaches its private fields and functions.
 #[allow(dead_code, unused, clippy::all, clippy::pedantic)]
@@ -49,6 +50,8 @@ impl Keyboard {
 pub struct Pc1500 {
     pub lh5801: Lh5801,
     pub keyboard: Keyboard,
+    /// What `halted_states` gives.
+    pub idle: u8,
     pub page0: Vec<u8>,
     pub page1: Vec<u8>,
 }
@@ -89,8 +92,10 @@ pub trait Watch {
     fn off(&mut self) {}
     /// IR0 is set.
     fn held(&mut self) {}
-    /// An interrupt is accepted.
-    fn interrupt(&mut self) {}
+    /// An interrupt is accepted; by a halted unit it is a wake.
+    fn interrupt(&mut self, _halted: bool) {}
+    /// The step waits, with this idle figure.
+    fn waiting(&mut self, _idle: u8) {}
     /// A listed byte of the first page (0) or after FD (1) is executed.
     fn executed(&mut self, _page: usize, _byte: u8) {}
 }
@@ -107,13 +112,21 @@ fn listed() -> &'static Listed {
 }
 
 impl Pc1500 {
-    pub fn new(record: &Record, keyboard: u8, [page0, page1]: [Vec<u8>; 2]) -> Pc1500 {
+    pub fn new(record: &Record, inputs: Inputs, [page0, page1]: [Vec<u8>; 2]) -> Pc1500 {
         let lh5801 = Lh5801::from_record(record);
-        Pc1500 { lh5801, keyboard: Keyboard { byte: keyboard }, page0, page1 }
+        let keyboard = Keyboard { byte: inputs.keyboard };
+        Pc1500 { lh5801, keyboard, idle: inputs.idle, page0, page1 }
+    }
+
+    /// Makes ready for a call from this record, on the pages as they are.
+    pub fn begin(&mut self, record: &Record, inputs: Inputs) {
+        self.lh5801 = Lh5801::from_record(record);
+        self.keyboard.byte = inputs.keyboard;
+        self.idle = inputs.idle;
     }
 
     /// So many steps of the original and nothing else: no stop is looked for, an unlisted byte
-    /// panics, and a halted unit spends states.
+    /// panics, and a halted step adds the idle figure, though it be 0.
     #[inline(never)]
     pub fn bare_steps(&mut self, steps: u32) {
         for _ in 0..steps {
@@ -154,13 +167,23 @@ impl Pc1500 {
             return None;
         }
         if unit.is_requested() && unit.ie() {
-            watch.interrupt();
+            watch.interrupt(unit.is_halted());
             return None;
         }
         if unit.is_halted() {
-            return Some((7, 0));
+            return self.halted(watch);
         }
         self.unlisted(listed, watch)
+    }
+
+    /// 7 with the idle figure 0; with any other a halted step waits.
+    #[inline]
+    fn halted<W: Watch>(&self, watch: &mut W) -> Option<(u8, u8)> {
+        if self.idle == 0 {
+            return Some((7, 0));
+        }
+        watch.waiting(self.idle);
+        None
     }
 
     /// 5 or 6, where the byte to be executed is unlisted.

@@ -65,6 +65,14 @@ impl Record {
         self.ir2 = bit(7);
         self.is_timer_reached = bit(8);
     }
+
+    /// The next step is a halted one, document 02's term: BF set, halted, IR0 clear, no interrupt
+    /// accepted. A reached timer counts as IR1.
+    pub fn begins_halted_step(&self) -> bool {
+        let requested = self.is_timer_reached || self.ir1 || self.ir2;
+        let accepted = requested && self.t & 0x02 != 0;
+        self.bf && self.is_halted && !self.ir0 && !accepted
+    }
 }
 
 /// The record as it stands in document 01's printed line.
@@ -79,11 +87,27 @@ impl fmt::Display for Record {
     }
 }
 
+/// What each step of a call is given beside the record and the pages.
+#[derive(Clone, Copy, Debug, Default, PartialEq, Eq)]
+pub struct Inputs {
+    pub keyboard: u8,
+    /// The states that a halted step waits; with 0 it stops with 7. Document 02, F-1.
+    pub idle: u8,
+}
+
+impl Inputs {
+    /// What a caller gets who gives a keyboard byte and asks for nothing else: the calls of a
+    /// campaign file and of a list.
+    pub fn of_keyboard(keyboard: u8) -> Inputs {
+        Inputs { keyboard, idle: 0 }
+    }
+}
+
 /// What a call is given.
 #[derive(Clone, Debug, Default, PartialEq, Eq)]
 pub struct Call {
     pub record: Record,
-    pub keyboard: u8,
+    pub inputs: Inputs,
     pub limit: u32,
     pub pages: [Vec<u8>; 2],
 }
@@ -170,6 +194,8 @@ pub struct Answer {
     pub states: u64,
     pub record: Record,
     pub pages: [Vec<u8>; 2],
+    /// How many of the steps waited. The original's harness alone counts them; not compared.
+    pub waits: u64,
     /// Absent where a side does not tell its accesses.
     pub log: Option<Log>,
     /// A failure of the side itself: for the original, a panic that is neither 5 nor 6.

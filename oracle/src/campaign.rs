@@ -2,7 +2,7 @@
 
 #![forbid(unsafe_code)]
 
-use crate::call::{Call, Record};
+use crate::call::{Call, Inputs, Record};
 
 /// The program reads at most so many bytes of standard input.
 pub const GREATEST_INPUT: u64 = 33_000;
@@ -92,12 +92,12 @@ impl Reader<'_> {
     }
 }
 
-/// Reads a whole campaign file.
+/// Reads a whole campaign file. It has no idle figure, and its call is given 0.
 pub fn read(bytes: &[u8]) -> Result<Call, Defect> {
     let mut reader = Reader { bytes, place: 0 };
     let call = Call {
         record: reader.record()?,
-        keyboard: reader.byte()?,
+        inputs: Inputs::of_keyboard(reader.byte()?),
         limit: reader.number(u64::from(u32::MAX))? as u32,
         pages: [reader.page()?, reader.page()?],
     };
@@ -141,7 +141,7 @@ pub fn number(mut value: u64) -> Vec<u8> {
 /// The numbers of a call's file, in the file's order; the last two are the pages' lengths.
 pub fn numbers(call: &Call) -> [u64; 16] {
     let r = &call.record;
-    let [a, t, keyboard] = [r.a, r.t, call.keyboard].map(u64::from);
+    let [a, t, keyboard] = [r.a, r.t, call.inputs.keyboard].map(u64::from);
     let [x, y, u, s, p, tm, flags] = [r.x, r.y, r.u, r.s, r.p, r.tm, r.flags()].map(u64::from);
     let (timer, previous, ticks) = (r.timer_state, r.step_previous_state, r.ticks);
     let [length0, length1] = [0, 1].map(|page: usize| call.pages[page].len() as u64);

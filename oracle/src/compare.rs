@@ -7,12 +7,14 @@ use std::fmt::Write;
 use bare::Returned;
 
 use crate::call::{Access, AccessKind, Answer, Call, Log, Record, Side};
+use crate::halted;
 use crate::model::Model;
 use crate::opcodes::table;
 use crate::original::Original;
 use crate::progress::Progress;
 use crate::random::{self, Random};
 use crate::shrink;
+use crate::waits::Waits;
 
 /// The original, the model that marks the vectors, and the side under comparison.
 pub struct Comparison {
@@ -132,6 +134,7 @@ struct Counts {
     unlisted: [[u64; 256]; 2],
     interrupts: u64,
     most_accesses: usize,
+    waits: Waits,
 }
 
 impl Counts {
@@ -143,11 +146,13 @@ impl Counts {
             unlisted: [[0; 256]; 2],
             interrupts: 0,
             most_accesses: 0,
+            waits: Waits::default(),
         }
     }
 
-    fn add(&mut self, answer: &Answer) {
+    fn add(&mut self, call: &Call, answer: &Answer) {
         self.steps += answer.steps;
+        self.waits.add(call.inputs.idle, answer.waits);
         self.stops[usize::from(answer.number)] += 1;
         if let 5 | 6 = answer.number {
             self.unlisted[usize::from(answer.number - 5)][usize::from(answer.byte)] += 1;
@@ -159,7 +164,7 @@ impl Counts {
     }
 
     /// An instruction begins with a read of its opcode, an interrupt with a write; a step with BF
-    /// clear or IR0 set has no access.
+    /// clear or IR0 set has no access, and a waiting one has none.
     fn add_step(&mut self, step: &[Access]) {
         self.most_accesses = self.most_accesses.max(step.len());
         match step {
@@ -181,6 +186,7 @@ impl Counts {
         let (interrupts, most) = (self.interrupts, self.most_accesses);
         let _ =
             writeln!(text, "\ninterrupts accepted: {interrupts}; most accesses in a step: {most}");
+        let _ = writeln!(text, "{}", self.waits);
         for (page, name) in ["first page", "after FD"].into_iter().enumerate() {
             let reached = |counts: &[u64; 256]| counts.iter().filter(|count| **count > 0).count();
             let listed = table()[page].iter().flatten().count();
@@ -204,10 +210,13 @@ impl Counts {
 pub fn run(calls: u64, seed: u64, side: Box<dyn Side>) -> bool {
     println!("seed {seed}, original against {}", side.name());
     let mut comparison = Comparison::new(side);
+    if !run_directed(&mut comparison) {
+        return false;
+    }
     let mut counts = Counts::new();
     let mut progress = Progress::new("call", calls);
     for index in 0..calls {
-        let call = random::call(&mut Random::new(seed, index));
+        let call = random::idle_call(&mut Random::new(seed, index));
         let (original, _, difference) = comparison.both(&call);
         if difference.is_some() {
             progress.wipe();
@@ -215,12 +224,30 @@ pub fn run(calls: u64, seed: u64, side: Box<dyn Side>) -> bool {
             report_smallest(&mut comparison, call);
             return false;
         }
-        counts.add(&original);
+        counts.add(&call, &original);
         progress.show(index);
     }
     progress.wipe();
     print!("{}", counts.report());
     println!("{calls} calls, {} steps, 0 differences", counts.steps);
+    true
+}
+
+/// Runs the directed calls of a halted unit; true where no difference was found.
+fn run_directed(comparison: &mut Comparison) -> bool {
+    let mut calls = 0;
+    let mut waits = Waits::default();
+    for call in halted::calls() {
+        let (original, _, difference) = comparison.both(&call);
+        if difference.is_some() {
+            println!("directed call {calls} of a halted unit differs; making it smaller");
+            report_smallest(comparison, call);
+            return false;
+        }
+        waits.add(call.inputs.idle, original.waits);
+        calls += 1;
+    }
+    println!("{calls} directed calls of a halted unit: {waits}");
     true
 }
 

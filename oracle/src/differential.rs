@@ -2,7 +2,8 @@
 //!
 //! The work is cut into sessions. A session has two pages of its own, the same on both sides, and
 //! starts the unit on them again and again; between two calls the record is sometimes changed, as
-//! a host may do. Every session depends on the seed and its own index only.
+//! a host may do. Each start has an idle figure, 0 for about half of them; with another one the unit
+//! waits where it is halted. Every session depends on the seed and its own index only.
 
 #![forbid(unsafe_code)]
 
@@ -11,9 +12,9 @@ use std::sync::atomic::{AtomicBool, AtomicU64, Ordering};
 use std::thread;
 use std::time::{Duration, Instant};
 
-use bare::{Lh5801, Pc1500, Returned, Watch};
+use bare::{Pc1500, Returned, Watch};
 
-use crate::call::{Call, Record, Side};
+use crate::call::{Call, Inputs, Record, Side};
 use crate::compare::{self, report_smallest, slices, Comparison};
 use crate::opcodes::table;
 use crate::original::Original;
@@ -21,11 +22,16 @@ use crate::port::{self, Port};
 use crate::progress::Progress;
 use crate::random::{self, Random};
 use crate::shrink;
+use crate::waits::Waits;
 
-/// How often each listed byte has to be executed in a run of 100 million steps.
+/// How often each listed byte has to be executed in a run of 100 million steps, and how many steps
+/// have to wait with each idle figure but 0.
 const LEAST: u64 = 10_000;
+const LEAST_WAITS: u64 = 100;
 /// Steps after which a session ends.
 const SESSION: u64 = 30_000;
+/// Of a hundred starts with an idle figure above 0, so many are parked.
+const PARKED: u64 = 40;
 /// Every so many sessions, the calls run through the original's own panics too.
 const SAMPLE: u64 = 8;
 /// The greatest limit of such a call: its accesses are logged.
@@ -48,7 +54,10 @@ struct Counts {
     unlisted: [[u64; 256]; 2],
     off: u64,
     held: u64,
+    waits: Waits,
     interrupts: u64,
+    /// Interrupts that a halted unit accepts.
+    wakes: u64,
     code_edges: u64,
     stack_edges: u64,
     /// Calls by the lengths of the pages: empty, whole, between.
@@ -68,7 +77,9 @@ impl Counts {
             unlisted: [[0; 256]; 2],
             off: 0,
             held: 0,
+            waits: Waits::default(),
             interrupts: 0,
+            wakes: 0,
             code_edges: 0,
             stack_edges: 0,
             lengths: [[0; 3]; 2],
@@ -91,9 +102,10 @@ impl Counts {
         self.sizes[[0, 1, 20, 1000].iter().filter(|most| returned.steps > **most).count()] += 1;
     }
 
-    /// Steps with BF set and IR0 clear: an instruction or an interrupt.
+    /// Steps that are neither with BF clear, nor with IR0 set, nor waiting: an instruction or an
+    /// interrupt.
     fn busy(&self) -> u64 {
-        self.steps - self.off - self.held
+        self.steps - self.off - self.held - self.waits.total()
     }
 
     fn join(&mut self, other: &Counts) {
@@ -105,7 +117,9 @@ impl Counts {
         self.sampled += other.sampled;
         self.off += other.off;
         self.held += other.held;
+        self.waits.join(&other.waits);
         self.interrupts += other.interrupts;
+        self.wakes += other.wakes;
         self.code_edges += other.code_edges;
         self.stack_edges += other.stack_edges;
         add(&mut self.stops, &other.stops);
@@ -137,9 +151,10 @@ impl Counts {
             self.sampled
         );
         println!(
-            "steps with an interrupt {}, with BF clear {}, with IR0 set {}",
-            self.interrupts, self.off, self.held
+            "steps with an interrupt {} (of a halted unit {}), with BF clear {}, with IR0 set {}",
+            self.interrupts, self.wakes, self.off, self.held
         );
+        println!("{}", self.waits);
         for (page, [empty, whole, between]) in self.lengths.iter().enumerate() {
             println!("calls by page {page}: empty {empty}, whole {whole}, between {between}");
         }
@@ -175,8 +190,12 @@ impl Watch for Counts {
     fn held(&mut self) {
         self.held += 1;
     }
-    fn interrupt(&mut self) {
+    fn interrupt(&mut self, halted: bool) {
         self.interrupts += 1;
+        self.wakes += u64::from(halted);
+    }
+    fn waiting(&mut self, idle: u8) {
+        self.waits.add(idle, 1);
     }
     fn executed(&mut self, page: usize, byte: u8) {
         self.executed[page][usize::from(byte)] += 1;
@@ -200,6 +219,9 @@ struct Session<'a> {
     pages: [Vec<u8>; 2],
     lengths: [usize; 2],
     record: Record,
+    inputs: Inputs,
+    /// The idle figure that came last of those that come in turn.
+    figure: u64,
     /// Calls and steps of this session.
     calls: u64,
     steps: u64,
@@ -214,13 +236,17 @@ impl Session<'_> {
         let mut random = Random::new(seed, index);
         let pages = random::world(&mut random);
         let lengths = [pages[0].len(), pages[1].len()];
+        let inputs = Inputs::of_keyboard(random.byte());
         Session {
-            machine: Pc1500::new(&Record::default(), random.byte(), pages.clone()),
+            machine: Pc1500::new(&Record::default(), inputs, pages.clone()),
             random,
             counts,
             pages,
             lengths,
             record: Record::default(),
+            inputs,
+            // Sessions begin at different figures.
+            figure: index.wrapping_mul(97),
             calls: 0,
             steps: 0,
             sampled: index.is_multiple_of(SAMPLE),
@@ -240,9 +266,13 @@ impl Session<'_> {
         Ok(())
     }
 
-    /// A new record, and often a program where it begins.
+    /// A new record and idle figure, and often a program where it begins.
     fn start(&mut self) {
         self.record = random::record(&mut self.random, self.lengths);
+        self.inputs.idle = self.idle();
+        if self.inputs.idle != 0 && self.random.chance(PARKED) {
+            random::park(&mut self.random, &mut self.record);
+        }
         if self.random.chance(60) {
             let size = self.random.pick(&[8, 40, 200]);
             let p = self.record.p;
@@ -258,10 +288,25 @@ impl Session<'_> {
         }
     }
 
+    /// The idle figure of a start: 0 for half of them, now and then an edge, else the next one of
+    /// 1 to 255, so that all of them come equally often.
+    fn idle(&mut self) -> u8 {
+        match self.random.below(10) {
+            0..=4 => 0,
+            5 => random::idle_edge(&mut self.random),
+            _ => {
+                self.figure = self.figure % 255 + 1;
+                self.figure as u8
+            }
+        }
+    }
+
     /// One call; false where it stopped.
     fn next(&mut self) -> Result<bool, Ended> {
-        let quiet = !self.record.bf || self.record.ir0;
-        let limit = if quiet { 1 + self.random.below(40) as u32 } else { limit(&mut self.random) };
+        let limit = match self.is_quiet() {
+            true => 1 + self.random.below(40) as u32,
+            false => limit(&mut self.random),
+        };
         if self.wanted == Some(self.calls) {
             return Err(Ended::Reached(Box::new(self.call(limit))));
         }
@@ -274,18 +319,16 @@ impl Session<'_> {
 
     /// The call that comes next, with its own pages.
     fn call(&self, limit: u32) -> Call {
-        let keyboard = self.machine.keyboard.byte;
-        Call { record: self.record, keyboard, limit, pages: self.pages.clone() }
+        Call { record: self.record, inputs: self.inputs, limit, pages: self.pages.clone() }
     }
 
     /// Runs a call on both sides; tells the first difference.
     fn compare(&mut self, limit: u32) -> Result<Returned, String> {
         let sampled = self.sampled && limit <= SAMPLE_LIMIT;
         let whole = sampled.then(|| Original.call(&self.call(limit)));
-        self.machine.lh5801 = Lh5801::from_record(&self.record);
+        self.machine.begin(&self.record, self.inputs);
         let returned = self.machine.original_run(limit, self.counts);
-        let keyboard = self.machine.keyboard.byte;
-        let port = port::call(&self.record, keyboard, limit, &mut self.pages);
+        let port = port::call(&self.record, self.inputs, limit, &mut self.pages);
         let record = self.machine.lh5801.record();
         if let Some(how) = compare::returned_difference(&returned, &record, &port) {
             return Err(how);
@@ -306,10 +349,24 @@ impl Session<'_> {
         Ok(returned)
     }
 
+    /// The next step waits.
+    fn is_parked(&self) -> bool {
+        self.inputs.idle != 0 && self.record.begins_halted_step()
+    }
+
+    /// Nothing is executed, and nothing inside the unit will ever end that: BF clear, IR0 set, or
+    /// parked with IE clear or with a timer that does not run.
+    fn is_quiet(&self) -> bool {
+        let r = &self.record;
+        let sleeps_on = r.t & 0x02 == 0 || r.tm == 0;
+        !r.bf || r.ir0 || self.is_parked() && sleeps_on
+    }
+
     /// Between two calls: sometimes another record.
     fn change(&mut self) {
-        let quiet = !self.record.bf || self.record.ir0;
-        if quiet && self.random.chance(60) {
+        if self.is_quiet() && self.random.chance(60) {
+            // A parked unit goes on. One that is off or held may be halted besides, and stays so.
+            self.record.is_halted &= !self.is_parked();
             (self.record.bf, self.record.ir0) = (true, false);
         }
         if self.random.chance(25) {
@@ -404,7 +461,8 @@ fn run_threads(settings: &Settings) -> (Counts, Option<Found>) {
     })
 }
 
-/// Runs the differential; true where nothing differs and every opcode came often enough.
+/// Runs the differential; true where nothing differs and every opcode and every idle figure came
+/// often enough.
 pub fn run(settings: &Settings) -> bool {
     let Settings { steps, seed, threads } = settings;
     println!("seed {seed}, {threads} threads, original against port");
@@ -418,12 +476,27 @@ pub fn run(settings: &Settings) -> bool {
     counts.print();
     let seconds = begin.elapsed().as_secs_f64();
     println!("{} calls, {} steps, 0 differences, {seconds:.1} s", counts.calls, counts.steps);
-    let least = LEAST.min(steps / LEAST);
+    came_often_enough(&counts, *steps)
+}
+
+/// What a count of a run of 100 million steps has to be in a shorter run.
+fn share(least: u64, steps: u64) -> u64 {
+    least.min(steps / (100_000_000 / least))
+}
+
+/// Whether every opcode was executed, and every idle figure waited with, as often as it has to be.
+fn came_often_enough(counts: &Counts, steps: u64) -> bool {
+    let least = share(LEAST, steps);
     let rarest = (0..2).map(|page| counts.rarest(page).1).min().unwrap_or(0);
     if rarest < least {
         println!("an opcode was executed {rarest} times only, less than {least}");
     }
-    rarest >= least
+    let least_waits = share(LEAST_WAITS, steps);
+    let (idle, waits) = counts.waits.rarest();
+    if waits < least_waits {
+        println!("the idle figure {idle} had {waits} waiting steps only, less than {least_waits}");
+    }
+    rarest >= least && waits >= least_waits
 }
 
 /// Prints the smallest input for a difference, from the session made once more up to that call.

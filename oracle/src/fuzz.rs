@@ -252,7 +252,7 @@ fn expected(file: &[u8]) -> Result<String, String> {
         let answer = Original.call(&call);
         return answer.failure.clone().map_or_else(|| Ok(answer.line()), Err);
     }
-    let mut machine = Pc1500::new(&call.record, call.keyboard, call.pages);
+    let mut machine = Pc1500::new(&call.record, call.inputs, call.pages);
     let returned = machine.original_run(call.limit, &mut ());
     let record = machine.lh5801.record();
     Ok(format!("{} {} {} {record}", returned.number, returned.steps, returned.states))

@@ -3,12 +3,13 @@
 #![forbid(unsafe_code)]
 
 pub const HELP: &str = "\
-The oracle runs the original lh5801.rs, included unchanged, over a flat memory.
+The oracle runs the original lh5801.rs, included unchanged but for one name, over a flat memory.
 
 oracle run [FILE]          the original's line for a campaign file
 oracle compare N           N random calls, the original against the model or the port
 oracle differential        100 million steps, the original against the port
 oracle rerun N             N runs through the port, cut into lists of calls on differing pages
+oracle park [N]            long parks: N waiting steps, the original against port and model
 oracle campaign N          N campaign files through the port's library or program
 oracle replay              the list of crates/replay through the port's libraries
 oracle speed               the speed of the original and of the port
@@ -37,7 +38,8 @@ pub const RUN_HELP: &str = "\
 oracle run [FILE] [--model] [--trace]
 
 Reads a campaign file (document 01, \"Campaign file\") from FILE, or from standard input without
-FILE or with -, at most 33,000 bytes of it, and prints document 01's line from the original.
+FILE or with -, at most 33,000 bytes of it, and prints document 01's line from the original. A
+file has no idle figure: it is 0.
 
 --model   the line from the model instead
 --trace   each step's accesses on standard error, in the side's own order
@@ -48,8 +50,10 @@ oracle compare N [--seed S] [--side model|port]
 
 Runs N random calls on the original and on another side and compares number, byte, steps, states,
 end record and both pages; of the model also the accesses, with the original's vector reads put in
-document 01's order. Prints what was reached. At a difference it prints the smallest failing input
-it finds and ends with status 1.
+document 01's order. Half of the calls have the idle figure 0, the others any. Directed calls come
+first: a halted unit with every idle figure and every state of the flags that decide about a step.
+Prints what was reached. At a difference it prints the smallest failing input it finds and ends with
+status 1.
 
 --seed S      the seed, a decimal number; 1 without it
 --side NAME   the other side, model or port; model without it. port wants the feature `port`
@@ -60,11 +64,13 @@ oracle differential [--steps N] [--seed S] [--threads T]
 
 Runs at least N steps of random programs on the original and on the port, and compares number,
 byte, steps, states, end record and both pages after every call. A part of the calls runs through
-the original's own panics too. Prints what was reached; an opcode that was executed less than
-10,000 times (N / 10,000 times where that is less) ends with status 1. At a difference it prints
-the smallest failing input it finds and ends with status 1. It wants the feature `port`.
+the original's own panics too. Idle figures are 0 in about half of the sessions' starts, else any.
+Prints what was reached; an opcode that was executed less than 10,000 times (N / 10,000 times where
+that is less), or an idle figure of 1 to 255 with less than 100 waiting steps (N / 1,000,000), ends
+with status 1. At a difference it prints the smallest failing input it finds and ends with status 1.
+It wants the feature `port`.
 
---steps N     100,000,000 without it
+--steps N     steps that execute an instruction or accept an interrupt; 100,000,000 without it
 --seed S      the seed, a decimal number; 1 without it
 --threads T   2 without it; seed and T together fix the calls that are made
 ";
@@ -76,10 +82,24 @@ Runs N random runs through the port, each twice: cut into a list of calls on the
 cut into another list on pages where every byte has another value that the run does not read before
 it has stored a write there. Compares the final stop and its byte, the end record, the sums of steps
 and states, and both pages: a written byte is what was last written, every other byte its own. What
-is read first and what is written comes from the original's log. At a difference it prints the
-smallest failing input it finds and ends with status 1. It wants the feature `port`.
+is read first and what is written comes from the original's log. Both lists have the same idle
+figure. At a difference it prints the smallest failing input it finds and ends with status 1. It
+wants the feature `port`.
 
 --seed S   the seed, a decimal number; 1 without it
+";
+
+pub const PARK_HELP: &str = "\
+oracle park [N]
+
+Runs two long parks on the original (without its log), the port and the model, and compares number,
+byte, steps, states, end record and both pages after every call. In one IE is clear, and nothing
+wakes the unit. In the other IE is set: the timer wakes it again and again, a routine at FFFA counts
+that, loads the timer and returns, and the unit executes HLT again. Each has N waiting steps,
+10,000,000 without N: half of them spread over all idle figures from 1 to 255, the rest in calls of
+up to 1,000,000 steps at the figures 1, 2, 41, 42, 43, 84 and 255 in turn; each call goes on from the
+last one. Prints waiting steps and wakes. At a difference it prints the smallest failing input it
+finds and ends with status 1. It wants the feature `port`.
 ";
 
 pub const CAMPAIGN_HELP: &str = "\
@@ -102,9 +122,9 @@ pub const REPLAY_HELP: &str = "\
 oracle replay [DIR]
 
 Replays the list that the port's program `replay` holds, from the files answers0.bin and on of DIR,
-or of ../crates/replay/data: every call through lh5801_run, with the line and two sums over both
-pages compared; every file that is turned down through probe_report, with its line compared. A
-difference ends with status 1. It wants the features `port` and `probe`.
+or of ../crates/replay/data: every call through lh5801_call with the idle figure 0, with the line
+and two sums over both pages compared; every file that is turned down through probe_report, with its
+line compared. A difference ends with status 1. It wants the features `port` and `probe`.
 
 Each page, the words, each file and the line's buffer are blocks of the heap that are exactly as
 long as they have to be, so that an access past an end is seen by valgrind; see ../memcheck.
@@ -113,11 +133,12 @@ long as they have to be, so that an access past an end is seen by valgrind; see 
 pub const SPEED_HELP: &str = "\
 oracle speed [--rounds N] [--bench DIR] [--least PERCENT]
 
-Checks that lh5801_run is the only function of the archive, as `oracle symbols` does (status 1 where
-it is not), and measures three ways to do the same work, in interleaved rounds: the original's bare
-step_cpu loop, the original under a run call with its stop checks, and the port. Prints the median
-with the least and the greatest, and the ratios of the medians, with those of the least costs behind
-them; above 1 the port is faster. It wants the feature `port`.
+Checks that lh5801_call is the only function of the archive, as `oracle symbols` does (status 1
+where it is not), and measures three ways to do the same work, in interleaved rounds: the original's
+bare step_cpu loop, the original under a run call with its stop checks, and the port. The work is
+that of campaign files with the idle figure 0, whole and cut into calls, and at the end waiting
+steps. Prints the median with the least and the greatest, and the ratios of the medians, with those
+of the least costs behind them; above 1 the port is faster. It wants the feature `port`.
 
 --rounds N        rounds that count; 15 without it
 --bench DIR       the folder of lop.bin, dca.bin and mixed.bin; ../../shared/bench without it
@@ -127,11 +148,11 @@ them; above 1 the port is faster. It wants the feature `port`.
 pub const ONCE_HELP: &str = "\
 oracle once (original|bare|port) FILE
 
-Runs a campaign file exactly once and prints document 01's line: under a run call of the original,
-as bare steps of the original (no stop is looked for), or by the port, which wants the feature
-`port`. For counts of instructions from outside:
+Runs a campaign file exactly once, with the idle figure 0, and prints document 01's line: under a run
+call of the original, as bare steps of the original (no stop is looked for), or by the port, which
+wants the feature `port`. For counts of instructions from outside:
 
-  valgrind --tool=callgrind --toggle-collect=lh5801_run oracle once port FILE
+  valgrind --tool=callgrind --toggle-collect=lh5801_call oracle once port FILE
   valgrind --tool=callgrind '--toggle-collect=*bare_steps*' oracle once bare FILE
   valgrind --tool=callgrind '--toggle-collect=*original_run*' oracle once original FILE
 ";
@@ -139,7 +160,7 @@ as bare steps of the original (no stop is looked for), or by the port, which wan
 pub const SYMBOLS_HELP: &str = "\
 oracle symbols [ARCHIVE]
 
-Runs nm on the port's archive and checks that lh5801_run is its only function, exported or not.
+Runs nm on the port's archive and checks that lh5801_call is its only function, exported or not.
 Without ARCHIVE it is the one that this oracle was built for.
 ";
 
@@ -148,8 +169,8 @@ oracle list N [--seed S] [--out FILE]
 oracle list --check FILE [--side original|model|port]
 
 Writes a list of the original's answers: the directed calls, then N random ones, one call a line;
-the file's head tells the format. Or reads such a list and compares every answer with a side's; a
-difference ends with status 1.
+the file's head tells the format. Their idle figure is 0. Or reads such a list and compares every
+answer with a side's; a difference ends with status 1.
 
 --seed S       the seed, a decimal number; 1 without it
 --out FILE     where to write; standard output without it

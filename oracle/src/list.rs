@@ -5,13 +5,14 @@
 use std::fmt::Write;
 use std::io;
 
-use crate::call::{Answer, Call, Record, Side};
+use crate::call::{Answer, Call, Inputs, Record, Side};
 use crate::directed;
 use crate::original::Original;
 use crate::progress::Progress;
 use crate::random::{self, Random};
 
-/// A call with sparse memory: lengths, a rule for every byte, and the bytes set after it.
+/// A call with sparse memory: lengths, a rule for every byte, and the bytes set after it. Its idle
+/// figure is 0.
 #[derive(Clone, Debug, Default, PartialEq, Eq)]
 pub struct Sparse {
     pub record: Record,
@@ -46,7 +47,8 @@ impl Sparse {
             };
             place.copy_from_slice(bytes);
         }
-        Ok(Call { record: self.record, keyboard: self.keyboard, limit: self.limit, pages })
+        let inputs = Inputs::of_keyboard(self.keyboard);
+        Ok(Call { record: self.record, inputs, limit: self.limit, pages })
     }
 }
 

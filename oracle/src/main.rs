@@ -1,4 +1,5 @@
-//! The oracle: the original `lh5801.rs`, included unchanged, against other implementations.
+//! The oracle: the original `lh5801.rs`, included unchanged but for one name, against other
+//! implementations.
 
 #![deny(unsafe_code)]
 
@@ -10,12 +11,14 @@ mod compare;
 mod differential;
 mod directed;
 mod fuzz;
+mod halted;
 mod help;
 mod lines;
 mod list;
 mod memory;
 mod model;
 mod original;
+mod park;
 mod port;
 #[cfg(feature = "probe")]
 mod probe;
@@ -26,6 +29,7 @@ mod rerun;
 mod shrink;
 mod speed;
 mod symbols;
+mod waits;
 
 // The included file names these two from the crate's root.
 pub use bare::host_io;
@@ -138,6 +142,11 @@ fn rerun(arguments: &Arguments) -> Result<bool, String> {
     Ok(rerun::run(arguments.count()?, arguments.seed()?))
 }
 
+fn park(arguments: &Arguments) -> Result<bool, String> {
+    wants_port()?;
+    Ok(park::run(arguments.positive_word("a number of waiting steps", 10_000_000)?))
+}
+
 /// The library's function, where this oracle has it and no program is named.
 fn source(program: Option<&str>) -> Result<Source, String> {
     if let (None, Some(report)) = (program, lines::LIBRARY) {
@@ -238,11 +247,12 @@ fn arithmetic(_: &Arguments) -> Result<bool, String> {
 type Command =
     (&'static str, &'static str, &'static [&'static str], fn(&Arguments) -> Result<bool, String>);
 
-const COMMANDS: [Command; 11] = [
+const COMMANDS: [Command; 12] = [
     ("run", help::RUN_HELP, &["--model", "--trace"], run),
     ("compare", help::COMPARE_HELP, &["--seed=", "--side="], compare),
     ("differential", help::DIFFERENTIAL_HELP, &["--steps=", "--seed=", "--threads="], differential),
     ("rerun", help::RERUN_HELP, &["--seed="], rerun),
+    ("park", help::PARK_HELP, &[], park),
     ("campaign", help::CAMPAIGN_HELP, &["--seed=", "--program="], campaign),
     ("replay", help::REPLAY_HELP, &[], replay),
     ("speed", help::SPEED_HELP, &["--rounds=", "--bench=", "--least="], speed),

@@ -1,4 +1,4 @@
-//! A second implementation of a step and of a call, written from document 01's text.
+//! A second implementation of a step and of a call, written from the text of documents 01 and 02.
 //!
 //! It is driven by the table of `opcodes.txt`; its flags come from sums, and its accesses are in
 //! document 01's order, a vector's high byte first. It shares only the memory and the types with
@@ -7,7 +7,7 @@
 #![forbid(unsafe_code)]
 
 use crate::call::{
-    AccessKind, Answer, Call, Record, Side, GREATEST_LIMIT, GREATEST_PAGE, GREATEST_TM,
+    AccessKind, Answer, Call, Inputs, Record, Side, GREATEST_LIMIT, GREATEST_PAGE, GREATEST_TM,
 };
 use crate::memory::Memory;
 use crate::opcodes::{
@@ -53,7 +53,7 @@ impl Side for Model {
         let mut memory = Memory::new(call.pages.clone());
         let mut answer = Answer { record: call.record, ..Answer::default() };
         for _ in 0..call.limit {
-            match self.step(answer.record, call.keyboard, &mut memory) {
+            match self.step(answer.record, call.inputs, &mut memory) {
                 Ok((record, states)) => {
                     answer.record = record;
                     answer.states += states;
@@ -87,13 +87,13 @@ impl Model {
     fn step(
         &self,
         record: Record,
-        keyboard: u8,
+        inputs: Inputs,
         memory: &mut Memory,
     ) -> Result<(Record, u64), Stop> {
         memory.begin_step();
         let mut step = Step {
             r: record,
-            keyboard,
+            inputs,
             memory,
             #[cfg(test)]
             slip: self.slip,
@@ -106,7 +106,7 @@ impl Model {
 /// A step under way: `r` is the record as the step has changed it so far.
 struct Step<'a> {
     r: Record,
-    keyboard: u8,
+    inputs: Inputs,
     memory: &'a mut Memory,
     #[cfg(test)]
     slip: Option<Slip>,
@@ -141,11 +141,23 @@ impl Step<'_> {
             self.interrupt(LINE_INTERRUPT);
             self.r.ir2 = false;
         } else if self.r.is_halted {
-            return Err(Stop { number: 7, byte: 0 });
+            self.halted()?;
         } else {
             self.instruction()?;
         }
         Ok(())
+    }
+
+    /// Document 02, F-1: "With 0 a halted step stops with 7 as before. With 1 to 255 it adds that
+    /// many states". Timer reached has moved to IR1 by now, and the timer part comes after.
+    fn halted(&mut self) -> Result<(), Stop> {
+        match self.inputs.idle {
+            0 => Err(Stop { number: 7, byte: 0 }),
+            figure => {
+                self.spend(u64::from(figure));
+                Ok(())
+            }
+        }
     }
 
     /// Pushes T as it is, then clears IE, pushes P and goes where the vector says.
@@ -278,7 +290,7 @@ impl Step<'_> {
             }
             (Kind::StatusToA, _) => self.status_to_a(),
             (Kind::AToStatus, _) => self.r.t = self.r.a % 32,
-            (Kind::InputToA, _) => self.combine(Combine::Lda, self.keyboard),
+            (Kind::InputToA, _) => self.combine(Combine::Lda, self.inputs.keyboard),
             (Kind::ClearDivider, _) => self.r.step_previous_state = self.r.timer_state,
             (Kind::LoadTimer(top), _) => self.r.tm = top + u16::from(self.r.a),
             _ => unreachable!("no such line in opcodes.txt: {entry:?}"),

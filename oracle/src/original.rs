@@ -1,8 +1,9 @@
-//! The original `lh5801.rs`, included unchanged, over the flat memory.
+//! The original `lh5801.rs`, included unchanged but for one name, over the flat memory.
 //!
-//! What is the original's own: a completed step, and stops 5 and 6, which are its panics. What is
-//! this harness's own: 1 to 4 and stop 7, the undoing of a step that stops, and
-//! everything that the file expects of the machine around it.
+//! What is the original's own: a completed step, a waiting one too, and stops 5 and 6, which are its
+//! panics. What is this harness's own: 1 to 4 and stop 7, the undoing of a step that stops, the
+//! states that a halted step adds (`halted_states`, the one place where the build changes the
+//! included text), and everything that the file expects of the machine around it.
 
 #![forbid(unsafe_code)]
 
@@ -12,7 +13,7 @@ use std::panic::{catch_unwind, set_hook, take_hook, AssertUnwindSafe};
 use std::sync::Once;
 
 use self::lh5801::Lh5801;
-use crate::call::{refusal, AccessKind, Answer, Call, Record, Side};
+use crate::call::{refusal, AccessKind, Answer, Call, Inputs, Record, Side};
 use crate::memory::Memory;
 use bare::Keyboard;
 
@@ -99,14 +100,17 @@ mod lh5801 {
 pub struct Pc1500 {
     pub lh5801: Lh5801,
     pub keyboard: Keyboard,
+    /// What `halted_states` gives.
+    pub idle: u8,
     pub memory: Memory,
 }
 
 impl Pc1500 {
-    pub fn new(record: &Record, keyboard: u8, pages: [Vec<u8>; 2]) -> Pc1500 {
+    pub fn new(record: &Record, inputs: Inputs, pages: [Vec<u8>; 2]) -> Pc1500 {
         Pc1500 {
             lh5801: Lh5801::from_record(record),
-            keyboard: Keyboard { byte: keyboard },
+            keyboard: Keyboard { byte: inputs.keyboard },
+            idle: inputs.idle,
             memory: Memory::new(pages),
         }
     }
@@ -171,13 +175,6 @@ fn step(machine: &mut Pc1500) -> Result<(), Panicked> {
     outcome.map_err(|payload| panicked(payload.as_ref()))
 }
 
-/// The harness's own stop 7, in place of `halted_states`. A reached timer counts as IR1.
-fn stops_halted(r: &Record) -> bool {
-    let requested = r.is_timer_reached || r.ir1 || r.ir2;
-    let accepted = requested && r.t & 0x02 != 0;
-    r.bf && r.is_halted && !r.ir0 && !accepted
-}
-
 #[derive(Default)]
 pub struct Original;
 
@@ -187,7 +184,9 @@ impl Original {
         for _ in 0..limit {
             let before = machine.lh5801.record();
             answer.record = before;
-            if stops_halted(&before) {
+            let halted = before.begins_halted_step();
+            // The harness's own stop 7. With any other idle figure the original steps, and waits.
+            if halted && machine.idle == 0 {
                 answer.number = 7;
                 return;
             }
@@ -203,6 +202,7 @@ impl Original {
             }
             answer.record = machine.lh5801.record();
             answer.steps += 1;
+            answer.waits += u64::from(halted);
             answer.states += answer.record.timer_state.wrapping_sub(before.timer_state);
         }
     }
@@ -219,7 +219,7 @@ impl Side for Original {
         if let Some(number) = refusal(lengths, call.record.tm, call.limit) {
             return Answer::refused(call, number);
         }
-        let mut machine = Pc1500::new(&call.record, call.keyboard, call.pages.clone());
+        let mut machine = Pc1500::new(&call.record, call.inputs, call.pages.clone());
         let mut answer = Answer::default();
         Original::run(&mut machine, call.limit, &mut answer);
         let (pages, log) = machine.memory.finish(answer.steps);
@@ -229,10 +229,24 @@ impl Side for Original {
 
 #[cfg(test)]
 mod tests {
+    use std::fs;
+
     use super::{panicked, Original, Panicked, Pc1500};
-    use crate::call::{Record, Side};
+    use crate::call::{Inputs, Record, Side};
     use crate::compare::{pages_difference, returned_difference, slices};
     use crate::random::{self, Random};
+
+    /// The included text is the original's but for the name in one line.
+    #[test]
+    fn one_line_of_the_included_text_is_changed() {
+        let files = [env!("LH5801_RS_GIVEN"), env!("LH5801_RS_PATH")];
+        let [given, included] = files.map(|file| fs::read_to_string(file).unwrap());
+        assert_eq!(given.lines().count(), included.lines().count());
+        let mut lines = given.lines().zip(included.lines());
+        let (line, changed) = lines.find(|(given, included)| given != included).unwrap();
+        assert_eq!(line.replace("halted_states", "halted_states_of_the_original"), changed);
+        assert!(lines.all(|(given, included)| given == included));
+    }
 
     #[test]
     fn another_panic_is_a_failure_of_its_own() {
@@ -247,9 +261,9 @@ mod tests {
     #[test]
     fn the_bare_run_call_answers_as_the_panics_do() {
         for index in 0..3000 {
-            let call = random::call(&mut Random::new(11, index));
+            let call = random::idle_call(&mut Random::new(11, index));
             let panics = Original.call(&call);
-            let mut bare = bare::Pc1500::new(&call.record, call.keyboard, call.pages);
+            let mut bare = bare::Pc1500::new(&call.record, call.inputs, call.pages);
             let returned = bare.original_run(call.limit, &mut ());
             assert_eq!(returned_difference(&returned, &bare.lh5801.record(), &panics), None);
             let pages = [bare.page0, bare.page1];
@@ -264,7 +278,7 @@ mod tests {
     /// Document 01, "Arithmetic": DCA and DCS on valid digits.
     #[test]
     fn digit_laws_hold_of_the_original() {
-        let mut machine = Pc1500::new(&Record::default(), 0, [vec![], vec![]]);
+        let mut machine = Pc1500::new(&Record::default(), Inputs::default(), [vec![], vec![]]);
         for i in 0..20_000 {
             let (a, operand, carry) = (i / 200, i / 2 % 100, i % 2);
             machine.lh5801.set_a_and_t(digits(a), carry as u8);

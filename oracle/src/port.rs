@@ -3,7 +3,7 @@
 
 #![allow(unsafe_code)]
 
-use crate::call::{Answer, Call, Record, Side};
+use crate::call::{Answer, Call, Inputs, Record, Side};
 
 /// The sixteen words that pass: 0 to 11 the record, 12 to 15 number, byte, steps and states.
 pub type Words = [u64; 16];
@@ -14,33 +14,35 @@ pub const LINKED: bool = cfg!(feature = "port");
 #[cfg(feature = "port")]
 mod entry {
     extern "C" {
-        pub fn lh5801_run(
+        pub fn lh5801_call(
             words: *mut u64,
             page0: *mut u8,
             length0: usize,
             page1: *mut u8,
             length1: usize,
-            keyboard: u8,
             limit: u32,
+            keyboard: u8,
+            idle: u8,
         );
     }
 }
 
 /// One run call of the port. The record goes in and comes back in the words.
 #[cfg(feature = "port")]
-pub fn run(words: &mut Words, page0: &mut [u8], page1: &mut [u8], keyboard: u8, limit: u32) {
+pub fn run(words: &mut Words, page0: &mut [u8], page1: &mut [u8], inputs: Inputs, limit: u32) {
     let (length0, length1) = (page0.len(), page1.len());
-    let (page0, page1) = (page0.as_mut_ptr(), page1.as_mut_ptr());
+    let (words, page0, page1) = (words.as_mut_ptr(), page0.as_mut_ptr(), page1.as_mut_ptr());
+    let Inputs { keyboard, idle } = inputs;
     // SAFETY: the words and both pages are lent for the whole call and do not overlap, the pointers
     // are aligned and not null, and each length is its page's own. The entry asks for nothing more.
     unsafe {
-        entry::lh5801_run(words.as_mut_ptr(), page0, length0, page1, length1, keyboard, limit);
+        entry::lh5801_call(words, page0, length0, page1, length1, limit, keyboard, idle);
     }
 }
 
 /// Commands test `LINKED` before they come here.
 #[cfg(not(feature = "port"))]
-pub fn run(_: &mut Words, _: &mut [u8], _: &mut [u8], _: u8, _: u32) {
+pub fn run(_: &mut Words, _: &mut [u8], _: &mut [u8], _: Inputs, _: u32) {
     unreachable!("this oracle was built without the feature `port`");
 }
 
@@ -94,14 +96,14 @@ pub fn record(words: &Words) -> Result<Record, String> {
 
 /// Runs a call on these pages. Half of the calls have bits set above the fields' widths. The words
 /// are a block of the heap, so that valgrind tells an access past their end.
-pub fn call(given: &Record, keyboard: u8, limit: u32, pages: &mut [Vec<u8>; 2]) -> Answer {
+pub fn call(given: &Record, inputs: Inputs, limit: u32, pages: &mut [Vec<u8>; 2]) -> Answer {
     let mut words = Box::new(words(given));
     let noise = words[12].wrapping_mul(0xBF58_476D_1CE4_E5B9);
     if noise & 1 == 1 {
         add_noise(&mut words, noise);
     }
     let [page0, page1] = pages;
-    run(&mut words, page0, page1, keyboard, limit);
+    run(&mut words, page0, page1, inputs, limit);
     let small = |word: u64| u8::try_from(word).map_err(|_| format!("not a byte: {word:X}"));
     let returned = record(&words).and_then(|r| Ok((r, small(words[12])?, small(words[13])?)));
     let (steps, states) = (words[14], words[15]);
@@ -124,7 +126,7 @@ impl Side for Port {
     /// The cloned pages are blocks of the heap of exactly their length.
     fn call(&mut self, given: &Call) -> Answer {
         let mut pages = given.pages.clone();
-        let answer = call(&given.record, given.keyboard, given.limit, &mut pages);
+        let answer = call(&given.record, given.inputs, given.limit, &mut pages);
         Answer { pages, ..answer }
     }
 }
@@ -133,7 +135,7 @@ impl Side for Port {
 mod tests {
     use super::{add_noise, record, words};
     #[cfg(feature = "port")]
-    use super::{run, Call, Port, Side, TM};
+    use super::{run, Call, Inputs, Port, Side, TM};
     use crate::call::Record;
     #[cfg(feature = "port")]
     use crate::original::Original;
@@ -165,7 +167,7 @@ mod tests {
         for tm in [65_536, 65_536 + 511, 1 << 32, u64::MAX] {
             let mut given = words(&Record { bf: true, ..Record::default() });
             given[TM] = tm;
-            run(&mut given, &mut [0x38; 6], &mut [], 0, 1);
+            run(&mut given, &mut [0x38; 6], &mut [], Inputs::default(), 1);
             assert_eq!(given[12], 3, "TM {tm}");
             assert_eq!(given[TM], 65_535, "TM {tm}");
         }
@@ -177,7 +179,7 @@ mod tests {
     fn the_worked_run() {
         let page0 = vec![0xB5, 0x15, 0xF9, 0x8C, 0x31, 0x27];
         let record = Record { x: 5, bf: true, ..Record::default() };
-        let call = Call { record, keyboard: 0, limit: 10, pages: [page0, vec![]] };
+        let call = Call { record, limit: 10, pages: [page0, vec![]], ..Call::default() };
         let line = "5 3 25 42 18 0005 0000 0000 0000 0004 000 008 25 0 25";
         assert_eq!(Port.call(&call).line(), line);
     }
@@ -192,7 +194,7 @@ mod tests {
         }
         let [x, y] = [lengths[0].saturating_sub(1), lengths[0]].map(|place| place as u16);
         let record = Record { a: 0x5A, x, y, bf: true, ..Record::default() };
-        Call { record, keyboard: 0, limit: 6, pages }
+        Call { record, limit: 6, pages, ..Call::default() }
     }
 
     /// Pages that are empty, short, as long as they may be, and longer, in every pair.

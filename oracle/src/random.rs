@@ -4,7 +4,7 @@
 
 #![forbid(unsafe_code)]
 
-use crate::call::{Call, Record};
+use crate::call::{Call, Inputs, Record};
 use crate::opcodes::table;
 
 #[derive(Clone)]
@@ -256,7 +256,7 @@ pub fn place(page: &mut [u8], at: u16, code: &[u8]) {
     }
 }
 
-/// A random call with whole pages.
+/// A random call with whole pages and the idle figure 0.
 pub fn call(random: &mut Random) -> Call {
     let lengths = [length(random), length(random)];
     let record = record(random, lengths);
@@ -271,7 +271,48 @@ pub fn call(random: &mut Random) -> Call {
             page.resize(65_537, 0x38);
         }
     }
-    Call { record, keyboard: random.byte(), limit: limit(random), pages }
+    let inputs = Inputs::of_keyboard(random.byte());
+    Call { record, inputs, limit: limit(random), pages }
+}
+
+/// An idle figure: 0 in half of the calls, else often an edge.
+fn idle(random: &mut Random) -> u8 {
+    match random.below(20) {
+        0..=9 => 0,
+        10..=13 => idle_edge(random),
+        _ => 1 + random.below(255) as u8,
+    }
+}
+
+/// An idle figure at its least and greatest, and at the timer's 42 states and twice as many.
+pub fn idle_edge(random: &mut Random) -> u8 {
+    random.pick(&[1, 2, 41, 42, 43, 84, 255])
+}
+
+/// A random call with an idle figure.
+pub fn idle_call(random: &mut Random) -> Call {
+    let call = call(random);
+    with_idle(random, call)
+}
+
+/// The call with an idle figure. Where that is not 0, some calls begin parked.
+pub fn with_idle(random: &mut Random, mut call: Call) -> Call {
+    call.inputs.idle = idle(random);
+    if call.inputs.idle != 0 && random.chance(25) {
+        park(random, &mut call.record);
+    }
+    call
+}
+
+/// Parks the unit: halted, BF set, IR0 clear, half of the time a request; mostly IE set, and often
+/// the timer one to four shifts before 1FF, so that it wakes the unit soon.
+pub fn park(random: &mut Random, record: &mut Record) {
+    let request = random.pick(&[0x000, 0x000, 0x000, 0x040, 0x080, 0x100]);
+    record.set_flags(record.flags() & 0x016 | 0x009 | request);
+    record.t = if random.chance(70) { record.t | 0x02 } else { record.t & !0x02 };
+    if random.chance(40) {
+        record.tm = random.pick(&[0x1FE, 0x1FC, 0x1F8, 0x1F0]);
+    }
 }
 
 /// Two pages that execution can wander over: page 0 is mostly full of listed instructions.
@@ -327,5 +368,35 @@ pub fn change(random: &mut Random, record: &mut Record, lengths: [usize; 2]) {
         9 => record.ir1 = true,
         10 => record.ir2 = true,
         _ => record.set_flags(flags(random)),
+    }
+}
+
+#[cfg(test)]
+mod tests {
+    use super::{call, idle, idle_call, Random};
+
+    /// 0 is half of the figures, every other one comes, and the edges come often.
+    #[test]
+    fn idle_figures_come_as_they_should() {
+        let mut random = Random::new(1, 0);
+        let mut counts = [0; 256];
+        for _ in 0..20_000 {
+            counts[usize::from(idle(&mut random))] += 1;
+        }
+        assert!((9500..10_500).contains(&counts[0]));
+        assert!(counts.iter().all(|count| *count > 0));
+        assert!([1, 2, 41, 42, 43, 84, 255].iter().all(|edge| counts[*edge] > 400));
+    }
+
+    /// But for the figure and the record of a parked unit, it is the plain call of a campaign.
+    #[test]
+    fn a_call_with_an_idle_figure_is_the_plain_one_otherwise() {
+        for index in 0..300 {
+            let with = idle_call(&mut Random::new(1, index));
+            let mut plain = call(&mut Random::new(1, index));
+            assert_eq!(plain.inputs.idle, 0);
+            (plain.inputs.idle, plain.record) = (with.inputs.idle, with.record);
+            assert_eq!(with, plain);
+        }
     }
 }

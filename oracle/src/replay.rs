@@ -1,5 +1,6 @@
 //! The list that the port's program `replay` holds (`../crates/replay/data`), through the port's two
-//! libraries: a call through `lh5801_run`, a file that is turned down through `probe_report`.
+//! libraries: a call through `lh5801_call` with the idle figure 0, a file that is turned down through
+//! `probe_report`.
 //!
 //! Each page, the words, each file and the line's buffer are blocks of the heap that are exactly as
 //! long as they have to be: valgrind tells an access past their ends (`../memcheck`).
@@ -72,8 +73,9 @@ impl Item<'_> {
             let [low, high, page, value] = [four[0], four[1], four[2], four[3]];
             (u32::from_le_bytes([low, high, page, 0]), vec![value])
         }));
-        let Call { record, keyboard, limit, .. } = file;
-        Sparse { record, keyboard, limit, lengths: self.lengths, fill: self.fill, set }.call()
+        let Call { record, inputs, limit, .. } = file;
+        let (keyboard, lengths, fill) = (inputs.keyboard, self.lengths, self.fill);
+        Sparse { record, keyboard, limit, lengths, fill, set }.call()
     }
 }
 
@@ -129,7 +131,7 @@ impl Tally {
         }
         let [empty, greatest, above] = pages;
         println!(
-            "{calls} calls through lh5801_run: {steps} steps, at most {most_steps} in a call;"
+            "{calls} calls through lh5801_call: {steps} steps, at most {most_steps} in a call;"
         );
         println!("  {empty} pages empty, {greatest} of 65,536 bytes, {above} of 65,537");
         println!("{refused} files turned down through probe_report");

@@ -33,6 +33,8 @@ struct Course {
     /// Reads of a byte that was written before it was ever read, and those of them inside a step.
     later_reads: u64,
     inside: u64,
+    /// Steps that waited.
+    waits: u64,
 }
 
 impl Course {
@@ -95,8 +97,9 @@ impl Course {
 /// The original over a list of calls.
 fn course(call: &Call, limits: &[u32]) -> Result<Course, String> {
     let first = [0, 1].map(|page: usize| vec![First::None; call.pages[page].len()]);
-    let (returned, record) = (Returned::default(), call.record);
-    let mut course = Course { returned, record, first, writes: vec![], later_reads: 0, inside: 0 };
+    let (returned, record, writes) = (Returned::default(), call.record, vec![]);
+    let mut course =
+        Course { returned, record, first, writes, later_reads: 0, inside: 0, waits: 0 };
     let mut next = call.clone();
     for limit in limits {
         next.limit = *limit;
@@ -108,13 +111,15 @@ fn course(call: &Call, limits: &[u32]) -> Result<Course, String> {
         let (steps, states) = (steps + answer.steps, states + answer.states);
         course.returned = Returned { number: answer.number, byte: answer.byte, steps, states };
         course.record = answer.record;
+        course.waits += answer.waits;
         course.add(&answer.log.unwrap_or_default());
         (next.record, next.pages) = (answer.record, answer.pages);
     }
     Ok(course)
 }
 
-/// The port over a list of calls: its answers must sum up to the course.
+/// The port over a list of calls: its answers must sum up to the course. All calls have the call's
+/// idle figure, on both sides: only then are two runs comparable.
 fn follow(
     course: &Course,
     call: &Call,
@@ -126,7 +131,7 @@ fn follow(
     let mut last = None;
     let mut record = call.record;
     for limit in limits {
-        let answer = port::call(&record, call.keyboard, *limit, &mut after);
+        let answer = port::call(&record, call.inputs, *limit, &mut after);
         if let Some(message) = &answer.failure {
             return Err(format!("failure: {message}"));
         }
@@ -188,6 +193,8 @@ struct Counts {
     other: u64,
     later_reads: u64,
     inside: u64,
+    waits: u64,
+    waiting_runs: u64,
 }
 
 impl Counts {
@@ -205,6 +212,8 @@ impl Counts {
         self.other += first().filter(|first| **first != First::Read).count() as u64;
         self.later_reads += course.later_reads;
         self.inside += course.inside;
+        self.waits += course.waits;
+        self.waiting_runs += u64::from(course.waits > 0);
     }
 
     fn print(&self) {
@@ -222,6 +231,7 @@ impl Counts {
             "reads of a byte that was written first: {}, inside the writing step: {}",
             self.later_reads, self.inside
         );
+        println!("waiting steps: {} in {} runs", self.waits, self.waiting_runs);
     }
 }
 
@@ -257,7 +267,7 @@ fn case(random: &mut Random) -> Call {
         4..=23 => near_stores(random, &mut call),
         _ => {}
     }
-    call
+    random::with_idle(random, call)
 }
 
 /// Code that stores and loads among a few bytes of both pages, so that many are written first.
@@ -353,7 +363,8 @@ mod tests {
     fn a_vector_under_the_stack_is_not_read_first() {
         let record = Record { s: 0xFFFB, t: 2, bf: true, ir1: true, ..Record::default() };
         let pages = [vec![0x38; 65_536], vec![]];
-        let course = course(&Call { record, keyboard: 0, limit: 1, pages }, &[1]).unwrap();
+        let call = Call { record, limit: 1, pages, ..Call::default() };
+        let course = course(&call, &[1]).unwrap();
         let first = |offset: usize| course.first[0][offset];
         assert!([0xFFF9, 0xFFFA, 0xFFFB].iter().all(|i| first(*i) == First::Written));
         assert_eq!((course.later_reads, course.inside), (2, 2));
@@ -366,7 +377,7 @@ mod tests {
     fn reads_of_a_stopping_step_count() {
         let record = Record { x: 9, bf: true, ..Record::default() };
         let pages = [vec![0x0E, 0x05, 0xFD, 0x00], vec![]];
-        let call = Call { record, keyboard: 0, limit: 5, pages };
+        let call = Call { record, limit: 5, pages, ..Call::default() };
         let course = course(&call, &[1, 4]).unwrap();
         assert_eq!(
             (course.returned.number, course.returned.byte, course.returned.steps),

@@ -4,7 +4,7 @@
 
 use std::fmt::Write;
 
-use crate::call::{Call, Record, Side};
+use crate::call::{Call, Inputs, Record, Side};
 use crate::original::Original;
 
 type Fails<'a> = &'a mut dyn FnMut(&Call) -> bool;
@@ -18,6 +18,7 @@ pub fn shrink(call: Call, fails: Fails) -> Call {
         move_down(&mut best, fails);
         shrink_pages(&mut best, fails);
         shrink_record(&mut best, fails);
+        shrink_inputs(&mut best, fails);
         if best == before {
             return best;
         }
@@ -60,7 +61,7 @@ fn begin_later(best: &mut Call, steps: u32, fails: Fails) -> bool {
         record: head.record,
         pages: head.pages,
         limit: best.limit - steps,
-        keyboard: best.keyboard,
+        inputs: best.inputs,
     };
     head.number == 0 && keep(best, candidate, fails)
 }
@@ -135,9 +136,28 @@ fn shrink_record(best: &mut Call, fails: Fails) {
         candidate.record.set_flags(best.record.flags() & !(1 << bit));
         keep(best, candidate, fails);
     }
-    let candidate = Call { keyboard: 0, ..best.clone() };
-    keep(best, candidate, fails);
     shrink_timer(best, fails);
+}
+
+/// The keyboard byte to zero, the idle figure to zero, to one or to a smaller one.
+fn shrink_inputs(best: &mut Call, fails: Fails) {
+    let mut candidate = best.clone();
+    candidate.inputs.keyboard = 0;
+    keep(best, candidate, fails);
+    loop {
+        let idle = best.inputs.idle;
+        let smaller = [0, 1, idle / 2, idle - idle / 4, idle.saturating_sub(1)];
+        let smaller = smaller.into_iter().filter(|smaller| *smaller < idle);
+        let candidates = smaller.map(|idle| {
+            let mut candidate = best.clone();
+            candidate.inputs.idle = idle;
+            candidate
+        });
+        let candidates = candidates.collect::<Vec<_>>();
+        if !candidates.into_iter().any(|candidate| keep(best, candidate, fails)) {
+            return;
+        }
+    }
 }
 
 /// Both counters together: to zero, to their difference and zero, or to the least difference that
@@ -189,10 +209,12 @@ fn move_down(best: &mut Call, fails: Fails) {
     }
 }
 
-/// A call in words: record, keyboard, limit and the bytes of the pages that are not zero.
+/// A call in words: record, keyboard, idle figure, limit and the bytes of the pages that are not
+/// zero.
 pub fn describe(call: &Call) -> String {
     let mut text = format!("record: {}\n", call.record);
-    let _ = writeln!(text, "keyboard {:02X}, limit {}", call.keyboard, call.limit);
+    let Inputs { keyboard, idle } = call.inputs;
+    let _ = writeln!(text, "keyboard {keyboard:02X}, idle figure {idle}, limit {}", call.limit);
     for (page, bytes) in call.pages.iter().enumerate() {
         let _ = write!(text, "page {page}: length {}", bytes.len());
         let set = bytes.iter().enumerate().filter(|(_, byte)| **byte != 0);
@@ -207,16 +229,47 @@ pub fn describe(call: &Call) -> String {
 #[cfg(test)]
 mod tests {
     use super::shrink;
-    use crate::call::Call;
+    use crate::call::{Answer, Call, Record, Side};
     use crate::compare::Comparison;
     use crate::model::{Model, Slip};
     use crate::random::{self, Random};
 
-    /// The smallest input for a model with a slip: from the first random call that shows it.
-    fn smallest(slip: Slip) -> Call {
-        let side = Model { slip: Some(slip) };
+    /// The model with wrong waiting steps: each ends with what this makes of the records before and
+    /// after it. It tells no accesses.
+    struct WrongWaits(fn(Record, Record) -> Record);
+
+    impl Side for WrongWaits {
+        fn name(&self) -> &'static str {
+            "model with wrong waits"
+        }
+
+        fn call(&mut self, call: &Call) -> Answer {
+            let right = Model::default().call(call);
+            let mut sum = Answer { steps: 0, log: None, ..right };
+            if let 1..=4 = sum.number {
+                return sum;
+            }
+            let mut next = Call { limit: 1, ..call.clone() };
+            while sum.steps < call.limit.into() {
+                let one = Model::default().call(&next);
+                let waits = next.inputs.idle != 0 && next.record.begins_halted_step();
+                sum.record = if waits { (self.0)(next.record, one.record) } else { one.record };
+                (sum.number, sum.byte, sum.pages) = (one.number, one.byte, one.pages);
+                (next.record, next.pages) = (sum.record, sum.pages.clone());
+                if sum.number != 0 {
+                    break;
+                }
+                sum.steps += 1;
+            }
+            sum.states = sum.record.ticks.wrapping_sub(call.record.ticks);
+            sum
+        }
+    }
+
+    /// The smallest input for a wrong side: from the first random call that shows it.
+    fn smallest(side: impl Side + 'static) -> Call {
         let mut comparison = Comparison::new(Box::new(side));
-        let mut calls = (0..).map(|index| random::call(&mut Random::new(7, index)));
+        let mut calls = (0..).map(|index| random::idle_call(&mut Random::new(7, index)));
         let failing = calls.find(|call| comparison.differs(call)).unwrap();
         shrink(failing, &mut |call| comparison.differs(call))
     }
@@ -227,7 +280,7 @@ mod tests {
 
     #[test]
     fn a_wrong_zero_flag_of_dca_becomes_one_step() {
-        let call = smallest(Slip::ZeroFromCorrectedByte);
+        let call = smallest(Model { slip: Some(Slip::ZeroFromCorrectedByte) });
         assert_eq!(call.limit, 1);
         assert!(bytes_set(&call) <= 6, "{}", super::describe(&call));
         assert!(call.pages[0].len() <= 32, "{}", super::describe(&call));
@@ -236,10 +289,45 @@ mod tests {
 
     #[test]
     fn a_wrong_test_of_lop_becomes_one_step() {
-        let call = smallest(Slip::LoopTestsAfterDecrement);
+        let call = smallest(Model { slip: Some(Slip::LoopTestsAfterDecrement) });
         assert_eq!(call.limit, 1);
         assert!(bytes_set(&call) <= 2, "{}", super::describe(&call));
         assert_eq!(call.record.flags(), 8);
         assert!(call.record.u & 0xFF <= 1);
+    }
+
+    /// Halted and BF, empty pages, and so many states.
+    fn assert_small_wait(call: &Call, most_idle: u8) {
+        assert_eq!((call.limit, call.record.flags(), call.record.t), (1, 9, 0));
+        assert_eq!(call.pages, [vec![], vec![]]);
+        assert!((1..=most_idle).contains(&call.inputs.idle), "{}", super::describe(call));
+    }
+
+    #[test]
+    fn a_wait_of_two_states_becomes_one_step_with_the_figure_1() {
+        let call = smallest(WrongWaits(|before, after| {
+            let (timer_state, ticks) = (before.timer_state, before.ticks);
+            let (timer_state, ticks) = (timer_state.wrapping_add(2), ticks.wrapping_add(2));
+            Record { timer_state, ticks, ..after }
+        }));
+        assert_small_wait(&call, 1);
+    }
+
+    #[test]
+    fn a_wait_without_a_timer_part_becomes_one_step() {
+        let call = smallest(WrongWaits(|before, after| {
+            let Record { tm, step_previous_state, .. } = before;
+            Record { tm, step_previous_state, is_timer_reached: false, ..after }
+        }));
+        assert_small_wait(&call, 42);
+    }
+
+    #[test]
+    fn a_wait_that_leaves_reached_becomes_one_step() {
+        let call = smallest(WrongWaits(|before, after| {
+            let is_timer_reached = before.is_timer_reached || after.is_timer_reached;
+            Record { ir1: before.ir1, is_timer_reached, ..after }
+        }));
+        assert_eq!((call.limit, call.record.flags(), call.inputs.idle), (1, 0x109, 1));
     }
 }

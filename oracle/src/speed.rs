@@ -11,9 +11,9 @@ use std::panic::{catch_unwind, AssertUnwindSafe};
 use std::path::{Path, PathBuf};
 use std::time::Instant;
 
-use bare::{Lh5801, Pc1500, Returned};
+use bare::{Pc1500, Returned};
 
-use crate::call::{Answer, Call, Record};
+use crate::call::{Answer, Call, Inputs, Record};
 use crate::campaign;
 use crate::port::{self, Words};
 
@@ -70,7 +70,7 @@ struct Sides {
 impl Sides {
     fn new(call: &Call) -> Sides {
         Sides {
-            machine: Pc1500::new(&call.record, call.keyboard, call.pages.clone()),
+            machine: Pc1500::new(&call.record, call.inputs, call.pages.clone()),
             words: port::words(&call.record),
             pages: call.pages.clone(),
         }
@@ -83,7 +83,7 @@ impl Sides {
             self.pages[0].copy_from_slice(&call.pages[0]);
             self.pages[1].copy_from_slice(&call.pages[1]);
         } else {
-            self.machine.lh5801 = Lh5801::from_record(&call.record);
+            self.machine.begin(&call.record, call.inputs);
             self.machine.page0.copy_from_slice(&call.pages[0]);
             self.machine.page1.copy_from_slice(&call.pages[1]);
         }
@@ -99,7 +99,7 @@ impl Sides {
                 ORIGINAL => number = self.machine.original_run(work.cut, &mut ()).number.into(),
                 _ => {
                     let [page0, page1] = &mut self.pages;
-                    port::run(&mut self.words, page0, page1, work.call.keyboard, work.cut);
+                    port::run(&mut self.words, page0, page1, work.call.inputs, work.cut);
                     number = self.words[12];
                 }
             }
@@ -266,17 +266,27 @@ pub fn run(settings: &Settings) -> Result<f64, String> {
         let call = on_pages(&programs[0].1, lengths);
         print_row(&Work::calls(&pages_title(lengths), &call, 1), rounds)?;
     }
+    print_head("Waiting steps, IE clear: a run of 1,000,000", "a step");
+    for idle in [2, 255] {
+        print_row(&Work::steps(&format!("idle figure {idle}"), &parked(idle), 1_000_000), rounds)?;
+    }
     Ok(least)
+}
+
+/// A unit that nothing wakes, with its timer running, on empty pages.
+fn parked(idle: u8) -> Call {
+    let record = Record { is_halted: true, bf: true, tm: 1, ..Record::default() };
+    Call { record, inputs: Inputs { keyboard: 0, idle }, ..Call::default() }
 }
 
 /// Runs a campaign file exactly once, one of the three ways, and tells document 01's line.
 pub fn once(way: &str, file: &Path) -> Result<String, String> {
     let mut call = load(file)?;
     if way == WAYS[PORT] {
-        let answer = port::call(&call.record, call.keyboard, call.limit, &mut call.pages);
+        let answer = port::call(&call.record, call.inputs, call.limit, &mut call.pages);
         return answer.failure.clone().map_or_else(|| Ok(answer.line()), Err);
     }
-    let mut machine = Pc1500::new(&call.record, call.keyboard, call.pages);
+    let mut machine = Pc1500::new(&call.record, call.inputs, call.pages);
     if way == WAYS[ORIGINAL] {
         let returned = machine.original_run(call.limit, &mut ());
         return Ok(line(returned, machine.lh5801.record()));

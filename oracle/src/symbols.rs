@@ -6,7 +6,7 @@ use std::path::Path;
 use std::process::Command;
 
 /// The one function that the archive exports.
-const ENTRY: &str = "lh5801_run";
+const ENTRY: &str = "lh5801_call";
 
 /// Kind and name of each symbol in what `nm` prints.
 fn symbols(listing: &str) -> Vec<(char, String)> {
@@ -57,8 +57,8 @@ mod tests {
 
     #[test]
     fn a_listing_is_read() {
-        let listing = "\nrun.o:\n0000 r .L\n0000 T lh5801_run\n         U memcpy\n";
-        let expected = [('r', ".L"), ('T', "lh5801_run"), ('U', "memcpy")];
+        let listing = "\nrun.o:\n0000 r .L\n0000 T lh5801_call\n         U memcpy\n";
+        let expected = [('r', ".L"), ('T', "lh5801_call"), ('U', "memcpy")];
         let expected = expected.map(|(kind, name)| (kind, name.to_string()));
         assert_eq!(symbols(listing), expected);
     }

@@ -65,3 +65,11 @@ impl Lh5801 {
         self.is_timer_reached || self.ir1 || self.ir2
     }
 }
+
+impl Pc1500 {
+    /// In place of the original's own definition, which the build has renamed: the idle figure of
+    /// document 02, F-1.
+    fn halted_states(&self) -> u8 {
+        self.idle
+    }
+}

@@ -128,7 +128,7 @@ most-interrupt m vector = most-then 5 2 _ _ (most-accept m vector) (λ k. tt)
 
 most-powered : (m : Lh5801) (inputs : Inputs) → AtMost 7 (poweredOf m inputs)
 most-powered m inputs =
-    powered-ways (AtMost 7) m inputs tt (most-interrupt (with-ir1 m false) 0xFFFA) (most-interrupt (with-ir2 m false) 0xFFF8) tt
+    powered-ways (AtMost 7) m inputs tt (most-interrupt (with-ir1 m false) 0xFFFA) (most-interrupt (with-ir2 m false) 0xFFF8) tt tt
     (most-instruction m inputs)
 
 -- a step makes at most seven accesses

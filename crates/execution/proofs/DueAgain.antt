@@ -12,7 +12,7 @@ use Rattle.pages.specs.Prog.{Prog}
 use Rattle.pages.specs.Contract.{Does}
 use Rattle.pages.proofs.Always.{Always, always-exec}
 use Rattle.pages.proofs.Stack.{accept-times}
-use Rattle.pages.proofs.Timer.{timer-part-status, states-status}
+use Rattle.pages.proofs.Timer.{timer-part-status, states-status, states-tm}
 use Rattle.execution.specs.declared.Inputs.{Inputs}
 use Rattle.execution.specs.declared.instructions.Instruction.{Instruction}
 use Rattle.execution.specs.Instructions.{executeOf}
@@ -30,7 +30,7 @@ module _ (m : Lh5801) (p : ℕ) (inputs : Inputs) (i : Instruction) (n : ℕ) {l
 
   states-small : m .tm < 512 → addStateOf k n .tm < 512
   states-small h =
-      subst (λ (n : ℕ). n < 512) (sym (ap (λ (s : Status). s .tm) (states-status k n)))
+      subst (λ (n : ℕ). n < 512) (sym (states-tm k n))
       (after .small (subst (λ (n : ℕ). n < 512) (sym (ap (λ (s : Status). s .tm) (keeps-p m p))) h))
 
   states-ready : settledOf i ≡ true → Ready m → Ready (addStateOf k n)

@@ -15,5 +15,6 @@ pub mod Accesses
 pub mod StopsClean
 pub mod Tests
 pub mod StopConditions
+pub mod Waiting
 pub mod ReadOrder
 pub mod Stops

@@ -2,6 +2,7 @@
 use Prim.Native.Nat.{ℕ, _+_}
 use mathlib.Core.Bool.{Bool, true, false, not, _&&_, _||_, cond, true≢false, not-eq-not}
 use mathlib.Core.Path.{_≡_, refl, sym, ap, subst, _∙_}
+use mathlib.Core.Logic.{_≢_}
 use Rattle.arithmetic.specs.declared.record.Lh5801.{Lh5801}
 use Rattle.execution.specs.declared.Inputs.{Inputs}
 use Rattle.arithmetic.specs.declared.Looped.{Looped}
@@ -26,12 +27,12 @@ use Rattle.execution.specs.declared.Outcome.{Outcome}
 use Rattle.execution.specs.declared.Outcome.the-variants.{Completed, Stopped}
 use Rattle.execution.specs.Instructions.{branchedOf, executeOf}
 use Rattle.execution.specs.States.{addedOf}
-use Rattle.execution.specs.Step.{off, held, interrupt, instruction, StepEnd, did, stopped, fetchOf, decodedBy, unlistedBy, decodedStepOf, instructionOf, interruptOf, reachedOf, poweredOf, stepOf}
+use Rattle.execution.specs.Step.{off, held, interrupt, waiting, instruction, StepEnd, did, stopped, fetchOf, decodedBy, unlistedBy, decodedStepOf, instructionOf, interruptOf, reachedOf, haltedOf, poweredOf, stepOf}
 use Rattle.execution.specs.Code.Outcomes.{outcomeOf}
 use Rattle.execution.specs.Code.Due.{dueBy, dueOf, Ready, settledOf, settledBy, executedOf}
 use Rattle.execution.proofs.Effects.{dueIn}
 use Rattle.execution.proofs.Choices.{cond-both, cond-true, cond-false}
-use Rattle.execution.proofs.Tests.{reached-same, none-accepted, unheld}
+use Rattle.execution.proofs.Tests.{reached-same, none-accepted, unheld, halting-step, halted-stops, halted-waits}
 use Rattle.execution.proofs.DueTest.{due-is}
 
 -- how LOP ends, by what its count gave
@@ -94,11 +95,23 @@ module _ (m : Lh5801) (inputs : Inputs) (on : m .bf ≡ true) (clear : m .«is_t
         rw (step-powered, ← enabled, some-request interruptOf _ _ _ _ (m .ir0) (m .ir1) (m .ir2) e free b, ← u, ← v)
         (does-mapped outcomeOf {r = did r 0 (interrupt vector)} (does-then _ d (does-done (ap (λ (x : Lh5801). did x 0 (interrupt vector)) f))))
 
-    pub step-halted : {p : Pages} → ((m .ir1 || m .ir2) && e) ≡ false → dueOf m ≡ false → Does (mapped outcomeOf (stepOf m inputs)) p (Stopped Halted) p
-    step-halted b n =
-        let none = none-accepted m on free clear (rw enabled at b) in
-        let halted : m .«is_halted» ≡ true = not-eq-not .0 (λ g. true≢false (sym (due-is m .1 (record { on = on; free = free; none = none; running = g })) ∙ n)) in
-        rw (unheld m inputs on free none, halted) (does-mapped outcomeOf {r = stopped Halted} (does-done refl))
+    -- no request is accepted and no instruction is due, so it is halted
+    module _ (b : ((m .ir1 || m .ir2) && e) ≡ false) (n : dueOf m ≡ false) where
+      step-halting : stepOf m inputs ≡ done (haltedOf m inputs)
+      step-halting =
+          let none = none-accepted m on free clear (rw enabled at b) in
+          let halted : m .«is_halted» ≡ true = not-eq-not .0 (λ g. true≢false (sym (due-is m .1 (record { on = on; free = free; none = none; running = g })) ∙ n)) in
+          halting-step m inputs (record { on = on; halted = halted; free = free; none = none })
+          ∙ ap (λ (k : Lh5801). done (haltedOf k inputs)) (reached-stays m clear)
+
+      pub step-halted : {p : Pages} → inputs .idle ≡ 0 → Does (mapped outcomeOf (stepOf m inputs)) p (Stopped Halted) p
+      step-halted z = rw (step-halting, halted-stops m inputs z) (does-mapped outcomeOf {r = stopped Halted} (does-done refl))
+
+      pub step-waiting : {p : Pages} {r : Lh5801} → inputs .idle ≢ 0 → r ≡ timerPartOf (addStateOf m (inputs .idle))
+          → Does (mapped outcomeOf (stepOf m inputs)) p (Completed r) p
+      step-waiting {r = r} z f =
+          rw (step-halting, halted-waits m inputs z)
+          (does-mapped outcomeOf {r = did r (inputs .idle) waiting} (does-done (ap (λ (x : Lh5801). did x (inputs .idle) waiting) f)))
 
 -- where an instruction is due, the step is that instruction's
 step-due : (m : Lh5801) (inputs : Inputs) → Ready m → stepOf m inputs ≡ instructionOf m inputs
@@ -184,6 +197,7 @@ executed-outcome : (e : StepEnd) → outcomeIn (executedOf e) ≡ outcomeOf e
 executed-outcome (did m states off) = refl
 executed-outcome (did m states held) = refl
 executed-outcome (did m states (interrupt vector)) = refl
+executed-outcome (did m states waiting) = refl
 executed-outcome (did m states (instruction fd byte)) = cond-both (λ x. outcomeIn x ≡ Completed m) (settledBy (decodedBy fd byte) && not (m .«is_timer_reached»)) _ _ refl refl
 executed-outcome (stopped s) = refl
 

@@ -2,6 +2,7 @@
 use mathlib.Core.Path.{_≡_, refl, ap, _∙_}
 use mathlib.Core.Bool.{Bool, true, false, not}
 use Prim.Native.Nat.{ℕ, _+_, _%_, _^_, _<_}
+use native.Mathlib.Nat.{add-zero}
 use native.Mathlib.Omega.{arith}
 use lib.Dec.{eqb}
 use Rattle.arithmetic.specs.declared.record.Lh5801.{Lh5801}
@@ -14,7 +15,7 @@ use Rattle.pages.specs.Prog.{exec}
 use Rattle.pages.specs.Timer.{addStateOf, timerPartOf}
 use Rattle.pages.proofs.Always.{Always, always-bind, always-then}
 use Rattle.pages.proofs.Stack.{accept-times}
-use Rattle.pages.proofs.Timer.{timer-part-small, timer-part-status, states-status}
+use Rattle.pages.proofs.Timer.{timer-part-small, timer-part-status, states-status, states-tm}
 use Rattle.execution.specs.declared.instructions.Instruction.{Instruction}
 use Rattle.execution.specs.declared.instructions.Decoded.{Decoded}
 use Rattle.execution.specs.declared.instructions.Decoded.the-variants.{Listed, Unlisted}
@@ -51,7 +52,7 @@ module _ (m : Lh5801) (inputs : Inputs) where
 
   counted-states : (k : Lh5801) (n e : ℕ) → Counted m e k → Counted m (n + e) (addStateOf k n)
   counted-states k n e h = (
-    λ l. rw (ap (λ (s : Status). s .tm) (states-status k n)) (h .0 l),
+    λ l. rw states-tm (h .0 l),
     omega (arith, ap (λ (s : Status). s .ticks) (states-status k n), h .1),
   )
 
@@ -84,6 +85,7 @@ module _ (m : Lh5801) (inputs : Inputs) where
       (counted-interrupt (with-ir1 k false) (times-then s (times-ir1 k false)) 0xFFFA)
       (counted-interrupt (with-ir2 k false) (times-then s (times-ir2 k false)) 0xFFF8)
       tt
+      (counted-timer _ (inputs .idle) (rw add-zero at (counted-states k (inputs .idle) 0 (counted-same k s))))
       (counted-instruction k s)
 
   counted-step : Always (CountedEnd m) (stepOf m inputs)

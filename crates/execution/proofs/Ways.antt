@@ -2,6 +2,7 @@
 use Prim.Native.Nat.{ℕ}
 use mathlib.Core.Bool.{true, false, _&&_}
 use mathlib.Core.Path.{_≡_}
+use lib.Dec.{eqb}
 use Rattle.arithmetic.specs.declared.record.Lh5801.{Lh5801}
 use Rattle.execution.specs.declared.Inputs.{Inputs}
 use Rattle.arithmetic.specs.Record.{with-ir1, with-ir2, with-is-timer-reached}
@@ -11,7 +12,7 @@ use Rattle.pages.specs.Prog.{Prog, done, exec}
 use Rattle.pages.specs.Timer.{addStateOf, timerPartOf}
 use Rattle.pages.proofs.Always.{Always, always-exec}
 use Rattle.execution.specs.declared.Stop.the-variants.{Halted}
-use Rattle.execution.specs.Step.{Kind, off, held, StepEnd, did, stopped, instructionOf, interruptOf, reachedOf, poweredOf, stepOf}
+use Rattle.execution.specs.Step.{Kind, off, held, waiting, StepEnd, did, stopped, instructionOf, interruptOf, reachedOf, haltedOf, poweredOf, stepOf}
 use Rattle.execution.proofs.Choices.{cond-both}
 
 -- what holds of a step's record, states and kind; of a step that stops nothing is said
@@ -33,14 +34,16 @@ module _ (R : Prog StepEnd → Type 0) (m : Lh5801) (inputs : Inputs) where
       → R (interruptOf (with-ir1 m false) 0xFFFA)
       → R (interruptOf (with-ir2 m false) 0xFFF8)
       → R (done (stopped Halted))
+      → R (done (did (timerPartOf (addStateOf m (inputs .idle))) (inputs .idle) waiting))
       → R (instructionOf m inputs)
       → R (poweredOf m inputs)
-  unfolding poweredOf
-  powered-ways f one two h i =
+  unfolding poweredOf haltedOf
+  powered-ways f one two h w i =
       cond-both R (m .ir0) (done (did (timerPartOf m) 0 held)) _ f
       (cond-both R (m .ir1 && hasFlag (m .t) IE) (interruptOf (with-ir1 m false) 0xFFFA) _ one
       (cond-both R (m .ir2 && hasFlag (m .t) IE) (interruptOf (with-ir2 m false) 0xFFF8) _ two
-      (cond-both R (m .«is_halted») (done (stopped Halted)) (instructionOf m inputs) h i)))
+      (cond-both R (m .«is_halted») (done (haltedOf m inputs)) (instructionOf m inputs)
+      (cond-both (λ e. R (done e)) (eqb (inputs .idle) 0) (stopped Halted) _ h w) i)))
 
   pub step-ways : R (done (did (addStateOf m 8) 8 off)) → R (poweredOf (moved m) inputs) → R (poweredOf m inputs) → R (stepOf m inputs)
   unfolding stepOf reachedOf

@@ -2,7 +2,9 @@
 use Prim.Native.Nat.{ℕ}
 use mathlib.Core.Bool.{Bool, true, false, not, _&&_, _||_}
 use mathlib.Core.Path.{_≡_}
+use mathlib.Core.Logic.{_≢_}
 use Rattle.arithmetic.specs.declared.record.Lh5801.{Lh5801}
+use Rattle.execution.specs.declared.Inputs.{Inputs}
 use Rattle.arithmetic.specs.Flags.{IE, hasFlag}
 use Rattle.pages.specs.Pages.{Pages, at}
 use Rattle.pages.specs.Stack.{up16}
@@ -13,12 +15,22 @@ use Rattle.execution.specs.Step.{Kind, StepEnd, did}
 abbrev pub accepted : Lh5801 → Bool
 accepted m = m .bf && not (m .ir0) && hasFlag (m .t) IE && (m .ir1 || m .«is_timer_reached» || m .ir2)
 
--- 7: "BF set, halted, IR0 clear, no interrupt accepted"
-pub record HaltedStop (m : Lh5801) : Type 0 where
+-- a halted step: "BF set, halted, IR0 clear, no interrupt accepted"
+pub record Halting (m : Lh5801) : Type 0 where
   pub on : m .bf ≡ true
   pub halted : m .«is_halted» ≡ true
   pub free : m .ir0 ≡ false
   pub none : accepted m ≡ false
+
+-- 7: that, and the idle figure is 0 (document 02, F-1)
+pub record HaltedStop (inputs : Inputs) (m : Lh5801) : Type 0 where
+  pub halting : Halting m
+  pub idle : inputs .idle ≡ 0
+
+-- the step waits: that, and the idle figure is not 0
+pub record Waits (inputs : Inputs) (m : Lh5801) : Type 0 where
+  pub halting : Halting m
+  pub idle : inputs .idle ≢ 0
 
 -- an instruction is due: BF set, IR0 clear, no interrupt accepted, not halted
 pub record Due (m : Lh5801) : Type 0 where
@@ -55,7 +67,7 @@ pub record Completes (e : StepEnd) : Type 0 where
   pub is : e ≡ did after states kind
 
 -- no condition of a stop holds
-pub record NoStop (m : Lh5801) (pages : Pages) : Type 0 where
-  pub seven : ¬ HaltedStop m
+pub record NoStop (inputs : Inputs) (m : Lh5801) (pages : Pages) : Type 0 where
+  pub seven : ¬ HaltedStop inputs m
   pub five : (b : ℕ) → ¬ FirstUnlisted m pages b
   pub six : (b : ℕ) → ¬ SecondUnlisted m pages b

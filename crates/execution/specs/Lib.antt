@@ -9,3 +9,4 @@ pub mod Stops
 pub mod Step
 pub mod Code
 pub mod Conditions
+pub mod Waiting

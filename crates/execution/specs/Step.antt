@@ -1,4 +1,4 @@
--- One step (document 01, "One step"), in its order.
+-- One step (document 01, "One step"), in its order. With an idle figure a halted step waits (document 02, F-1).
 use Prim.Native.Nat.{ℕ, _+_}
 use mathlib.Core.Bool.{Bool, true, false, _&&_, cond}
 use lib.Dec.{eqb}
@@ -19,25 +19,29 @@ use Rattle.execution.specs.Opcodes.{decoded}
 use Rattle.execution.specs.OpcodesFd.{decodedFd}
 use Rattle.execution.specs.States.{addedOf}
 
--- what a completed step was: BF was off, IR0 held it, an interrupt was accepted, with its vector, or an instruction was executed, after FD or not
+-- what a completed step was: BF was off, IR0 held it, an interrupt was accepted, with its vector, it was halted and waited, or an instruction was
+-- executed, after FD or not
 pub data Kind : Type 0 where
   off : Kind
   held : Kind
   interrupt : ℕ → Kind
+  waiting : Kind
   instruction : Bool → ℕ → Kind
 
--- the least and the greatest number of states of a completed step
-abbrev pub fewestStates : Kind → ℕ
-fewestStates off = 8
-fewestStates held = 0
-fewestStates (interrupt vector) = 0
-fewestStates (instruction fd byte) = 4
+-- the least and the greatest number of states of a completed step; one that waits has exactly the idle figure's
+abbrev pub fewestStates : Inputs → Kind → ℕ
+fewestStates inputs off = 8
+fewestStates inputs held = 0
+fewestStates inputs (interrupt vector) = 0
+fewestStates inputs waiting = inputs .idle
+fewestStates inputs (instruction fd byte) = 4
 
-abbrev pub mostStates : Kind → ℕ
-mostStates off = 8
-mostStates held = 0
-mostStates (interrupt vector) = 0
-mostStates (instruction fd byte) = 23
+abbrev pub mostStates : Inputs → Kind → ℕ
+mostStates inputs off = 8
+mostStates inputs held = 0
+mostStates inputs (interrupt vector) = 0
+mostStates inputs waiting = inputs .idle
+mostStates inputs (instruction fd byte) = 23
 
 -- how a step ends. It is document 01's "completed step", with the record after it, its states and what it was; or it stops, and then the
 -- record and the pages before it stand
@@ -88,13 +92,19 @@ interruptOf m vector = do
 unfoldable pub reachedOf : Lh5801 → Lh5801
 reachedOf m = cond (m .«is_timer_reached») (with-is-timer-reached (with-ir1 m true) false) m
 
--- with BF set: IR0; else IR1 with IE; else IR2 with IE; else halted, stop 7; else one instruction
+-- halted: "With 0 a halted step stops with 7 as before. With 1 to 255 it adds that many states .. and goes through the timer part" (F-1)
+unfoldable pub haltedOf : Lh5801 → Inputs → StepEnd
+haltedOf m inputs =
+    cond (eqb (inputs .idle) 0) (stopped Halted)
+    (did (timerPartOf (addStateOf m (inputs .idle))) (inputs .idle) waiting)
+
+-- with BF set: IR0; else IR1 with IE; else IR2 with IE; else halted; else one instruction
 unfoldable pub poweredOf : Lh5801 → Inputs → Prog StepEnd
 poweredOf m inputs =
     cond (m .ir0) (done (did (timerPartOf m) 0 held))
     (cond (m .ir1 && hasFlag (m .t) IE) (interruptOf (with-ir1 m false) 0xFFFA)
     (cond (m .ir2 && hasFlag (m .t) IE) (interruptOf (with-ir2 m false) 0xFFF8)
-    (cond (m .«is_halted») (done (stopped Halted))
+    (cond (m .«is_halted») (done (haltedOf m inputs))
     (instructionOf m inputs))))
 
 -- "BF clear: 8 states, nothing else, no timer part"

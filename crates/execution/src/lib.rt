@@ -28,6 +28,8 @@ pub mod transfers;
 // What a step is given besides the record and the pages.
 pub struct Inputs {
     pub keyboard: u8,
+    // Document 02, F-1: how many states a halted step waits; with 0 it stops.
+    pub idle: u8,
 }
 
 impl Inputs {
@@ -35,7 +37,10 @@ impl Inputs {
     pub fn of_keyboard(keyboard: u8) -> Inputs
         ensures { λ r. ⌜ r ≡ ofKeyboard keyboard ⌝ }
     {
-        Inputs { keyboard: keyboard }
+        Inputs {
+            keyboard: keyboard,
+            idle: 0,
+        }
     }
 }
 
@@ -261,7 +266,11 @@ fn powered_step(cpu: Lh5801, page0: &mut [u8], page1: &mut [u8], inputs: Inputs)
         let next = pages::accept(acknowledged(cpu), page0, page1, at);
         return Outcome::Completed(pages::timer_part(next));
     }
-    Outcome::Stopped(Stop::Halted)
+    // Halted.
+    if inputs.idle == 0 {
+        return Outcome::Stopped(Stop::Halted);
+    }
+    Outcome::Completed(pages::wait(cpu, inputs.idle))
 }
 
 // An instruction is due: BF set, IR0 clear, no interrupt accepted, not halted.

@@ -3,7 +3,7 @@ ghost use mathlib.Core.Path.{_≡_};
 ghost use mathlib.Core.Bool.{cond};
 ghost use lib.Dec.{ltb};
 ghost use Rattle.pages.specs.Contract.{atEntry, atExit};
-ghost use Rattle.execution.specs.Inputs.{ofKeyboard};
+ghost use Rattle.execution.specs.Inputs.{inputsOf};
 ghost use Rattle.run.specs.RecordNumbers.{AllWithin};
 ghost use Rattle.run.specs.Run.{callOf, settings};
 ghost use Rattle.lh5801.specs.Words.{takenOf, cpuOf, wordsOf, wordWidths, Left};
@@ -69,20 +69,24 @@ fn words_of(r: Answer) -> [u64; 16]
     ]
 }
 
-// The run call. In C: lh5801_run(words, page0, length0, page1, length1, keyboard, limit).
+// The run call. In C: lh5801_call(words, page0, length0, page1, length1, limit, keyboard, idle).
 #[no_mangle]
-pub extern "C" fn lh5801_run(
+pub extern "C" fn lh5801_call(
     words: &mut [u64; 16],
     page0: &mut [u8],
     page1: &mut [u8],
-    keyboard: u8,
     limit: u32,
+    keyboard: u8,
+    idle: u8,
 )
-    ensures { λ _. ⌜ Left (callOf (settings (ofKeyboard keyboard) limit) (cpuOf (now (words .entry))) (atEntry page0 page1)) (now (words .exit)) (atExit page0 page1) ⌝ }
+    ensures { λ _. ⌜ Left (callOf (settings (inputsOf keyboard idle) limit) (cpuOf (now (words .entry))) (atEntry page0 page1)) (now (words .exit)) (atExit page0 page1) ⌝ }
 {
     let numbers = taken(words);
     let cpu = record_numbers::record_of(&numbers);
-    let inputs = Inputs::of_keyboard(keyboard);
+    let inputs = Inputs {
+        keyboard: keyboard,
+        idle: idle,
+    };
     let settings = Settings {
         inputs: inputs,
         limit: limit,

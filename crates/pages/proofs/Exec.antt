@@ -28,6 +28,11 @@ pub done-answer : {A : Type 0} (a : A) (m : Pages) → exec (done a) m .answer �
 unfolding exec
 done-answer a m = refl
 
+-- without an access the pages are as they were
+pub done-none : {A : Type 0} (a : A) (m : Pages) → (exec (done a) m .pages ≡ m) × (exec (done a) m .accesses ≡ [])
+unfolding exec
+done-none a m = (refl, refl)
+
 -- an answer, and then the next
 pub done-then : {A B : Type 0} (a : A) (f : A → Prog B) → done a >>= f ≡ f a
 unfolding _>>=_

@@ -1,7 +1,7 @@
 -- The laws of the timer.
 use mathlib.Core.Path.{_≡_, refl, ap, subst, sym, _∙_}
 use mathlib.Core.Bool.{Bool, true, false, cond}
-use Prim.Native.Nat.{ℕ, _+_, _<_, _≤_, _/_, _%_, _^_}
+use Prim.Native.Nat.{ℕ, _+_, _-_, _<_, _≤_, _/_, _%_, _^_}
 use native.Mathlib.Omega.{arith}
 use lib.Bits.{bitXor}
 use lib.Dec.{T, eqb, eqb→eq, leb}
@@ -9,6 +9,7 @@ use borrow.Author.Tests.{le-leb, lt-leb}
 use Rattle.arithmetic.specs.declared.record.Lh5801.{Lh5801}
 use Rattle.arithmetic.specs.Record.{with-tm, with-timer-state, with-step-previous-state}
 use Rattle.arithmetic.proofs.Status.{Status, statusOf, withTimer, withTicks, keeps-previous, keeps-states, status-tm, status-reached, status-ticks}
+use Rattle.arithmetic.proofs.Timing.{timing, timing-states, timing-shift}
 use Rattle.arithmetic.proofs.Compute.{both, both-left, both-right, every, test-at}
 use Rattle.pages.specs.Timer.{shiftOf, timerIncOf, addStateOf, passedOf, timerPartOf}
 
@@ -88,3 +89,30 @@ timer-part-status m = go (leb 42 (passedOf m))
 pub states-status : (m : Lh5801) (n : ℕ) → statusOf (addStateOf m n) ≡ withTicks (statusOf m) ((m .ticks + n) % 2 ^ 64)
 unfolding addStateOf
 states-status m n = status-ticks (with-timer-state m _) _ ∙ ap (λ (s : Status). withTicks s ((m .ticks + n) % 2 ^ 64)) (keeps-states m _)
+
+-- states that pass keep TM
+pub states-tm : (m : Lh5801) (n : ℕ) → addStateOf m n .tm ≡ m .tm
+states-tm m n = ap (λ (s : Status). s .tm) (states-status m n)
+
+pub states-small : (m k : Lh5801) (n : ℕ) → k ≡ addStateOf m n → m .tm < 512 → k .tm < 512
+states-small m k n e h = rw (e, states-tm m n) h
+
+-- states that pass, and then the timer part: the counters, and with 42 states or more since previous one shift
+module _ (m : Lh5801) (n : ℕ) where
+  abbrev now : ℕ
+  now = (m .«timer_state» + n) % 2 ^ 64
+
+  abbrev later : ℕ
+  later = (m .ticks + n) % 2 ^ 64
+
+  abbrev counted : Lh5801
+  counted = timing m (m .ir1) (m .«is_timer_reached») (m .tm) now (m .«step_previous_state») later
+
+  abbrev shifted : Lh5801
+  shifted = timing m (m .ir1) (eqb (shiftOf (m .tm)) 0x1FF) (shiftOf (m .tm)) now now later
+
+  pub elapsed : timerPartOf (addStateOf m n) ≡ cond (leb 42 ((now + (2 ^ 64 - m .«step_previous_state»)) % 2 ^ 64)) shifted counted
+  unfolding addStateOf timerPartOf timerIncOf passedOf
+  elapsed =
+      ap timerPartOf (timing-states m now later)
+      ∙ ap (λ (k : Lh5801). cond (leb 42 (passedOf counted)) k counted) (timing-shift counted (shiftOf (m .tm)) now (eqb (shiftOf (m .tm)) 0x1FF))

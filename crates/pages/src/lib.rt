@@ -193,3 +193,12 @@ pub fn timer_part(cpu: Lh5801) -> Lh5801
         cpu
     }
 }
+
+// A waiting step: its states pass, and then the timer part.
+pub fn wait(cpu: Lh5801, idle: u8) -> Lh5801
+    requires { ⌜ cpu .tm < 512 ⌝ }
+    ensures { λ r. ⌜ r ≡ timerPartOf (addStateOf cpu idle) ⌝ }
+{
+    let later = add_state(cpu, idle);
+    timer_part(later)
+}

@@ -183,24 +183,26 @@ module _ (s : Settings) (m : Lh5801) (p : Pages) where
       ↔ (Accepted s m p × ComesTo (s .inputs) (s .limit) m p (λ k q. SecondUnlisted k q b))
   number-6 b = stop-where (UnlistedFd b) (λ k q. stops-6 k (s .inputs) q b)
 
-  pub number-7 : (callNumber s m p ≡ 7) ↔ (Accepted s m p × ComesTo (s .inputs) (s .limit) m p (λ k q. HaltedStop k))
+  pub number-7 : (callNumber s m p ≡ 7) ↔ (Accepted s m p × ComesTo (s .inputs) (s .limit) m p (λ k q. HaltedStop (s .inputs) k))
   number-7 =
       let t = stop-where Halted (λ k q. stops-7 k (s .inputs) q) in (
         λ e. t .0 (e, byte-0 (callOf s m p .answer .end) (λ z. omega arith) (λ z. omega arith)),
         λ r. t .1 r .0,
       )
 
--- the states: a completed step adds at most 23
-run-states : (n : ℕ) (inputs : Inputs) (m : Lh5801) (p : Pages) → runOf n inputs m p .answer .states ≤ 23 * runOf n inputs m p .answer .steps
-run-states n inputs m p = reaches-most (run-reaches n inputs m p)
+-- the states: a completed step adds at most 255, as the idle figure has 8 bits
+run-states : (n : ℕ) (inputs : Inputs) → inputs .idle ≤ 255 → (m : Lh5801) (p : Pages)
+    → runOf n inputs m p .answer .states ≤ 255 * runOf n inputs m p .answer .steps
+run-states n inputs i m p = reaches-most i (run-reaches n inputs m p)
 
-pub call-states : (s : Settings) (m : Lh5801) (p : Pages) → callOf s m p .answer .states ≤ 23 * callOf s m p .answer .steps
-unfolding noStep
-call-states s m p =
-    call-each s m p (λ o. o .answer .states ≤ 23 * o .answer .steps) (λ e. omega arith) (λ h. run-states (s .limit) (s .inputs) m p)
+module _ (s : Settings) (i : s .inputs .idle ≤ 255) (m : Lh5801) (p : Pages) where
+  pub call-states : callOf s m p .answer .states ≤ 255 * callOf s m p .answer .steps
+  unfolding noStep
+  call-states =
+      call-each s m p (λ o. o .answer .states ≤ 255 * o .answer .steps) (λ e. omega arith) (λ h. run-states (s .limit) (s .inputs) i m p)
 
-pub call-states-most : (s : Settings) (m : Lh5801) (p : Pages) → callOf s m p .answer .states ≤ 23_000_000
-unfolding noStep
-call-states-most s m p =
-    call-each s m p (λ o. o .answer .states ≤ 23_000_000) (λ e. omega arith)
-    (λ h. omega (arith, run-states (s .limit) (s .inputs) m p, run-steps-most (s .limit) (s .inputs) m p, limit-most h))
+  pub call-states-most : callOf s m p .answer .states ≤ 255_000_000
+  unfolding noStep
+  call-states-most =
+      call-each s m p (λ o. o .answer .states ≤ 255_000_000) (λ e. omega arith)
+      (λ h. omega (arith, run-states (s .limit) (s .inputs) i m p, run-steps-most (s .limit) (s .inputs) m p, limit-most h))

@@ -104,7 +104,7 @@ reaches-from z h start = absurd (omega arith)
 reaches-from {l = l} {p = p} {q = q} z h (next {j = j} {n = n} {k = k} {s = s} {t = t} {kind = kind} {ws = ws} e r) =
     rw z (next {j = j} {m = l} {n = n} {k = k} {p = p} {q = q} {s = s} {t = t} {kind = kind} {ws = ws} (rw (← z) e) (rw (← z) r))
 
--- completed steps keep TM at most 511, and add their states, at most 23 each, to the ticks
+-- completed steps keep TM at most 511, and add their states, at most 255 each, to the ticks
 module _ {inputs : Inputs} where
   pub reaches-small : {j : ℕ} {m k : Lh5801} {p q : Pages} {t : ℕ} {ws : List Write} → Reaches inputs j m p k q t ws → m .tm < 512 → k .tm < 512
   reaches-small start h = h
@@ -115,6 +115,6 @@ module _ {inputs : Inputs} where
   reaches-ticks start = omega arith
   reaches-ticks {m = m} {p = p} (next {n = n} {s = s} {kind = kind} e r) = omega (arith, reaches-ticks r, step-ticks m inputs p n s kind e)
 
-  pub reaches-most : {j : ℕ} {m k : Lh5801} {p q : Pages} {t : ℕ} {ws : List Write} → Reaches inputs j m p k q t ws → t ≤ 23 * j
-  reaches-most start = omega arith
-  reaches-most {m = m} {p = p} (next {n = n} {s = s} {kind = kind} e r) = omega (arith, reaches-most r, step-states m inputs p n s kind e)
+  pub reaches-most : {j : ℕ} {m k : Lh5801} {p q : Pages} {t : ℕ} {ws : List Write} → inputs .idle ≤ 255 → Reaches inputs j m p k q t ws → t ≤ 255 * j
+  reaches-most h start = omega arith
+  reaches-most {m = m} {p = p} h (next {n = n} {s = s} {kind = kind} e r) = omega (arith, reaches-most h r, step-states m inputs h p n s kind e)

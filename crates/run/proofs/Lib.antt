@@ -12,3 +12,4 @@ pub mod Stored
 pub mod Reading
 pub mod Marked
 pub mod AccessOrders
+pub mod Waiting

@@ -99,13 +99,13 @@ module _ {inputs : Inputs} {limit : ℕ} {first : Lh5801} {from : Pages} {steps 
   small = reaches-small (g .reached) (g .begun)
 
   -- the states so far, from the ticks
-  counted : limit ≤ 1_000_000 → statesBetween (first .ticks) (m .ticks) ≡ g .states
-  counted l = omega (arith, reaches-ticks (g .reached), reaches-most (g .reached), g .within)
+  counted : inputs .idle ≤ 255 → limit ≤ 1_000_000 → statesBetween (first .ticks) (m .ticks) ≡ g .states
+  counted i l = omega (arith, reaches-ticks (g .reached), reaches-most i (g .reached), g .within)
 
-  stop-here : {s : Stop} → steps < limit → limit ≤ 1_000_000 → oneStep inputs m p .answer ≡ stopped s
+  stop-here : {s : Stop} → steps < limit → inputs .idle ≤ 255 → limit ≤ 1_000_000 → oneStep inputs m p .answer ≡ stopped s
       → Answers (runOf limit inputs first from) (answerOf (Step s) steps (statesBetween (first .ticks) (m .ticks)) m) p
-  stop-here {s = s} h l e =
-      record { answer = rw (counted l, reaches-stop limit (g .reached) h e); pages = rw (reaches-stop limit (g .reached) h e) refl }
+  stop-here {s = s} h i l e =
+      record { answer = rw (counted i l, reaches-stop limit (g .reached) h e); pages = rw (reaches-stop limit (g .reached) h e) refl }
 
   -- a stretch of steps, and one whose next step stops
   pub led-on : {r : Led} {q : Pages} → Leads inputs steps limit m p r q → Going inputs limit first from (r .steps) (r .cpu) q
@@ -123,13 +123,14 @@ led-open {inputs} {done} {limit} {q = q} {r = r} l e = subst (AheadIs inputs don
 
 pub led-stop : {inputs : Inputs} {limit : ℕ} {first : Lh5801} {from : Pages} {steps : ℕ} {m : Lh5801} {p q : Pages} {r : Led} {s : Stop}
     → Going inputs limit first from steps m p
+    → inputs .idle ≤ 255
     → limit ≤ 1_000_000
     → Leads inputs steps limit m p r q
     → r .ahead ≡ Stops s
     → Answers (runOf limit inputs first from) (answerOf (Step s) (r .steps) (statesBetween (first .ticks) (r .cpu .ticks)) (r .cpu)) q
-led-stop {inputs} {limit} {steps = steps} {q = q} {r = r} {s = s} g l d e =
+led-stop {inputs} {limit} {steps = steps} {q = q} {r = r} {s = s} g i l d e =
     let a : AheadIs inputs steps limit (r .steps) (r .cpu) q (Stops s) = subst (AheadIs inputs steps limit (r .steps) (r .cpu) q) e (d .ahead) in
-    stop-here (led-on g d) (a .0) l (a .1)
+    stop-here (led-on g d) (a .0) i l (a .1)
 
 -- a step that stops leaves the pages
 stop-step : (m : Lh5801) (inputs : Inputs) {p q : Pages} {s : Stop} → Does (mapped outcomeOf (stepOf m inputs)) p (Stopped s) q
@@ -199,12 +200,12 @@ module _ {inputs : Inputs} {done limit : ℕ} {m first : Lh5801} {from : Pages} 
         (one-stops (omega arith) (subst (λ (o : Pages). Does (mapped outcomeOf (stepOf m inputs)) o (Stopped s) q) (r .1) (rw z at d)))
 
 pub at-limit : {inputs : Inputs} {limit : ℕ} {first : Lh5801} {from : Pages} {steps : ℕ} {m : Lh5801} {p : Pages} (g : Going inputs limit first from steps m p)
-    → limit ≤ steps → limit ≤ 1_000_000
+    → limit ≤ steps → inputs .idle ≤ 255 → limit ≤ 1_000_000
     → Answers (runOf limit inputs first from) (answerOf AllSteps steps (statesBetween (first .ticks) (m .ticks)) m) p
-at-limit {inputs} {limit} {first} {from} {steps} {m} {p} g h l =
+at-limit {inputs} {limit} {first} {from} {steps} {m} {p} g h i l =
     let e : limit ≡ steps = omega (arith, g .within) in
     let r : runOf limit inputs first from ≡ _ = ap (λ (n : ℕ). runOf n inputs first from) e ∙ reaches-run (g .reached) in
-    record { answer = rw (counted g l, r) refl; pages = rw r refl }
+    record { answer = rw (counted g i l, r) refl; pages = rw r refl }
 
 -- a call that is not accepted, and one that is accepted
 module _ (s : Settings) (m : Lh5801) (p : Pages) where

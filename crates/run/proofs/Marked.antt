@@ -14,7 +14,7 @@ use Rattle.pages.specs.Timer.{shiftOf, timerIncOf, addStateOf, passedOf, timerP
 use Rattle.execution.specs.Opcodes.{decoded}
 use Rattle.execution.specs.Places.{locateOf, operandOf}
 use Rattle.execution.specs.Instructions.{aluOf, drrOf, drlOf, branchOf, lopOf, executeOf}
-use Rattle.execution.specs.Step.{fetchOf, decodedStepOf, instructionOf, reachedOf, poweredOf, stepOf}
+use Rattle.execution.specs.Step.{fetchOf, decodedStepOf, instructionOf, reachedOf, haltedOf, poweredOf, stepOf}
 use Rattle.run.specs.Acceptance.{notAccepted}
 use Rattle.run.specs.Run.{noStep, completed, onward, runOf, callUnless, callOf}
 use Rattle.run.specs.RecordNumbers.{flagsOf, recordOf}
@@ -24,7 +24,7 @@ use Rattle.run.specs.Marked.{shiftsOf, replyOf, MarkedCase, markedCases}
 use Rattle.run.specs.Report.{reportOf}
 
 pub marked-cases-hold : map (λ (c : MarkedCase). replyOf (c .asked)) markedCases ≡ map (λ (c : MarkedCase). c .expected) markedCases
-unfolding replyOf markedCases shiftsOf reportOf with-a with-t with-u with-p with-tm with-is-timer-reached with-timer-state with-ticks withFlags addOf decimalSumOf dcaSum dcsSum dcaOf dcsOf ldaOf at inside stored setByte store _>>=_ read write after exec writes readopOf shiftOf timerIncOf addStateOf passedOf timerPartOf decoded locateOf operandOf aluOf drrOf drlOf branchOf lopOf executeOf fetchOf decodedStepOf instructionOf reachedOf poweredOf stepOf notAccepted noStep completed onward runOf callUnless callOf numberOf numbersOf bytesOf pageOf recordOf ended campaignOf decimalOf hexOf flagsOf lineOf
+unfolding replyOf markedCases shiftsOf reportOf with-a with-t with-u with-p with-tm with-is-timer-reached with-timer-state with-ticks withFlags addOf decimalSumOf dcaSum dcsSum dcaOf dcsOf ldaOf at inside stored setByte store _>>=_ read write after exec writes readopOf shiftOf timerIncOf addStateOf passedOf timerPartOf decoded locateOf operandOf aluOf drrOf drlOf branchOf lopOf executeOf fetchOf decodedStepOf instructionOf reachedOf haltedOf poweredOf stepOf notAccepted noStep completed onward runOf callUnless callOf numberOf numbersOf bytesOf pageOf recordOf ended campaignOf decimalOf hexOf flagsOf lineOf
 marked-cases-hold = refl
 
 -- the list is document 01's, in its order

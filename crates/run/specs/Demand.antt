@@ -44,7 +44,8 @@ pub record SameAsRun (p q : Pages) (run : CallResult) (calls : List CallResult) 
   pub list-pages : Written q (flatten (map (λ (o : CallResult). o .wrote) calls)) (getLast calls some-call .pages)
 
 -- for every accepted run, and every list of limits, at least 1 each, that add up to the run's; for pages equally long, that agree at each
--- byte that the run reads before it has written it. An empty list adds up to 0, and such a run is not accepted
+-- byte that the run reads before it has written it. Run and list share the inputs: the keyboard byte and, "comparable .. only if their idle figures
+-- are equal too" (document 02, F-1), the idle figure. An empty list adds up to 0, and such a run is not accepted
 unfoldable pub Demand3 : Type 0
 Demand3 =
     (s : Settings) (m : Lh5801) (p : Pages)

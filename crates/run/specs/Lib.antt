@@ -12,3 +12,4 @@ pub mod Parts
 pub mod Report
 pub mod Marked
 pub mod AccessOrders
+pub mod Waiting

@@ -1,6 +1,6 @@
 // The run call.
 ghost use mathlib.Core.Path.{_≡_};
-ghost use mathlib.Core.Bool.{true};
+ghost use mathlib.Core.Bool.{true, false};
 ghost use Prim.Native.Nat.{_≤_, _<_};
 ghost use Rattle.pages.specs.Contract.{atEntry, atExit};
 ghost use Rattle.execution.specs.Code.Due.{dueOf};
@@ -152,6 +152,25 @@ fn instructions(
     }
 }
 
+// One step in which no instruction is due; so many were completed before.
+fn other_step(
+    cpu: Lh5801,
+    page0: &mut [u8],
+    page1: &mut [u8],
+    inputs: Inputs,
+    done: u32,
+    limit: u32,
+) -> Led
+    requires { ⌜ (cpu .tm < 512) × (dueOf cpu ≡ false) × (done < limit) ⌝ }
+    ensures { λ r. ⌜ Leads inputs done limit cpu (atEntry page0 page1) r (atExit page0 page1) ⌝ }
+{
+    let outcome = execution::step_cpu(cpu, page0, page1, inputs);
+    match outcome {
+        Outcome::Completed(next) => open_after(done + 1, next),
+        Outcome::Stopped(stop) => stops_after(done, cpu, stop),
+    }
+}
+
 // The next steps: instructions for as long as they are due, or one step of another kind; so many were completed before.
 fn advance(
     cpu: Lh5801,
@@ -164,14 +183,10 @@ fn advance(
     requires { ⌜ (cpu .tm < 512) × (done < limit) ⌝ }
     ensures { λ r. ⌜ Leads inputs done limit cpu (atEntry page0 page1) r (atExit page0 page1) ⌝ }
 {
-    if execution::due(cpu) {
-        return instructions(cpu, page0, page1, inputs, done, limit);
+    if !execution::due(cpu) {
+        return other_step(cpu, page0, page1, inputs, done, limit);
     }
-    let outcome = execution::step_cpu(cpu, page0, page1, inputs);
-    match outcome {
-        Outcome::Completed(next) => open_after(done + 1, next),
-        Outcome::Stopped(stop) => stops_after(done, cpu, stop),
-    }
+    instructions(cpu, page0, page1, inputs, done, limit)
 }
 
 // Steps up to the limit, or to the first that stops.

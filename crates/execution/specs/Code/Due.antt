@@ -15,7 +15,7 @@ use Rattle.execution.specs.declared.instructions.Decoded.{Decoded}
 use Rattle.execution.specs.declared.instructions.Decoded.the-variants.{Listed, Unlisted}
 use Rattle.execution.specs.declared.Executed.{Executed}
 use Rattle.execution.specs.declared.Executed.the-variants.{Again, Completed, Stopped}
-use Rattle.execution.specs.Step.{Kind, off, held, interrupt, instruction, StepEnd, did, stopped, decodedBy}
+use Rattle.execution.specs.Step.{Kind, off, held, interrupt, waiting, instruction, StepEnd, did, stopped, decodedBy}
 
 -- BF set, and neither IR0, nor with IE a request or timer reached, nor halted
 abbrev pub dueBy : Bool → Bool → Bool → Bool → Bool → Bool → Bool → Bool
@@ -106,6 +106,7 @@ abbrev pub executedAs : Kind → Lh5801 → Executed
 executedAs off m = Completed m
 executedAs held m = Completed m
 executedAs (interrupt vector) m = Completed m
+executedAs waiting m = Completed m
 executedAs (instruction fd byte) m = cond (settledBy (decodedBy fd byte) && not (m .«is_timer_reached»)) (Again m) (Completed m)
 
 abbrev pub executedOf : StepEnd → Executed

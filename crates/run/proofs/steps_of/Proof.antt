@@ -1,4 +1,4 @@
-use Prim.Native.Nat.{_-_}
+use Prim.Native.Nat.{_-_, _≤_}
 use mathlib.Core.Path.{_≡_, refl, _∙_}
 use native.Mathlib.Omega.{arith}
 use lib.ListN.{length}
@@ -29,6 +29,10 @@ head a = call a .before .before .before .before
 abbrev start : tie.After-current Inv-loop μ-loop → tie.Start Inv-loop μ-loop
 start a = head a .before .before .before
 
+-- the idle figure has 8 bits
+idle-small : (s : tie.Start Inv-loop μ-loop) → s .args .inputs .idle ≤ 255
+idle-small s = search needs
+
 -- the lent pages keep their lengths
 long0 : (a : tie.After-current Inv-loop μ-loop) → length (call a .advance .last .1 .0) ≡ length (start a .args .page0 .now)
 long0 a = call a .advance .kept .1 .0 ∙ head a .loop .inv .long0
@@ -49,10 +53,10 @@ loop-again c =
 returns : tie.Need-returns Inv-loop μ-loop
 returns c =
     let a = c .before .before .before .before in
-    rw (c .answered .ensures) (led-stop (head a .loop .inv .going) (start a .pre .1) (call a .advance .ensures) (c .before .before .ahead .given .1))
+    rw (c .answered .ensures) (led-stop (head a .loop .inv .going) (idle-small (start a)) (start a .pre .1) (call a .advance .ensures) (c .before .before .ahead .given .1))
 
 returns-2 : tie.Need-returns-2 Inv-loop μ-loop
-returns-2 c = rw (c .answered2 .ensures) (at-limit (c .before .before .loop .inv .going) (c .before .loop-test .left) (c .before .before .before .before .before .pre .1))
+returns-2 c = rw (c .answered2 .ensures) (at-limit (c .before .before .loop .inv .going) (c .before .loop-test .left) (idle-small (c .before .before .before .before .before)) (c .before .before .before .before .before .pre .1))
 
 pub steps-of-spec : {M : Type 1} → statement M
 steps-of-spec =

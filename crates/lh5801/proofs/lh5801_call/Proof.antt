@@ -1,11 +1,11 @@
--- `lh5801::lh5801_run` meets its contract: the run call of the record that the words give, and its answer's words.
+-- `lh5801::lh5801_call` meets its contract: the run call of the record that the words give, and its answer's words.
 use mathlib.Core.Path.{ap, _∙_}
 use native.Mathlib.Omega.{arith}
 use Rattle.lh5801.specs.Words.{takenOf, wordsOf}
 use borrow.Author.Needs.{needs}
 use Rattle.lh5801.proofs.Words.{taken-within, continues}
-use Rattle.lh5801.proofs.lh5801_run.Statement.{statement}
-use Rattle.lh5801.proofs.lh5801_run.Tie as tie
+use Rattle.lh5801.proofs.lh5801_call.Statement.{statement}
+use Rattle.lh5801.proofs.lh5801_call.Tie as tie
 
 record-of-requires : tie.Need-record-of-requires
 unfolding takenOf
@@ -14,9 +14,8 @@ record-of-requires c κs = rw (c .before .taken .ensures) (omega arith, taken-wi
 returns : tie.Need-returns
 returns c =
     let call = c .before .before .before .before .before in
-    let keyboard = call .before .before .before in
-    let from = keyboard .before in
-    let a = rw (from .record-of .ensures, from .before .before .taken .ensures, keyboard .of-keyboard .ensures) at (call .run .ensures) in
+    let from = call .before .before .before in
+    let a = rw (from .record-of .ensures, from .before .before .taken .ensures) at (call .run .ensures) in
     let w = c .words-of .ensures in
     record {
       words-are = w .0 ∙ ap wordsOf (a .answer);
@@ -25,8 +24,8 @@ returns c =
       pages = a .pages;
     }
 
-pub lh5801-run-spec : {M : Type 1} → statement M
-lh5801-run-spec =
+pub lh5801-call-spec : {M : Type 1} → statement M
+lh5801-call-spec =
     tie.close
-    (tie.spec (λ c κs. search needs) (λ c. search needs) record-of-requires (λ c κs. search needs) (λ c κs. search needs) (λ c κs. search needs)
+    (tie.spec (λ c κs. search needs) (λ c. search needs) record-of-requires (λ c κs. search needs) (λ c κs. search needs)
     (λ c. search needs) (λ c. search needs) returns)

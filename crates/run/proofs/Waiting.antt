@@ -15,7 +15,7 @@ pub halted-steps-hold : map (λ (c : HaltedCase). stepped (inputsOf 0 (c .idle))
 unfolding haltedCases stepped with-tm with-step-previous-state shiftOf timerIncOf at inside stored setByte store
 halted-steps-hold = refl
 
--- a halted unit with IE set, TM not 0 and nothing but waiting comes to the timer's entry
+-- one park: from HLT, with IE set and TM not 0, through nothing but waiting, to the timer's entry
 pub timer-wakes : callOf (settings (inputsOf 0 20) 7) parkRecord (parkPages 0x00 0x00 0x00) ≡ parkComes
 unfolding parkComes writes notAccepted noStep completed onward runOf callUnless callOf stepped with-tm with-step-previous-state shiftOf timerIncOf at inside stored setByte store
 timer-wakes = refl

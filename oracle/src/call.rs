@@ -1,4 +1,4 @@
-//! A call and its answer, as document 01 tells them, and the sides that answer calls.
+//! A call and its answer, as documents 01 and 02 tell them, and the sides that answer calls.
 
 #![forbid(unsafe_code)]
 
@@ -10,6 +10,8 @@ pub const GREATEST_PAGE: usize = 65_536;
 pub const GREATEST_TM: u16 = 511;
 /// Greatest step limit that a call accepts.
 pub const GREATEST_LIMIT: u32 = 1_000_000;
+/// Document 02, F-2: "A step has at most seven accesses."
+pub const MOST_ACCESSES: usize = 7;
 
 /// The record: document 01, "Record and pages". Names are those of the original's fields.
 #[derive(Clone, Copy, Debug, Default, PartialEq, Eq)]
@@ -103,6 +105,40 @@ impl Inputs {
     }
 }
 
+/// The bus log that a call is lent (document 02, F-2): the list's entries, and how many of them are
+/// used, which may be more than there are.
+#[derive(Clone, Debug, Default, PartialEq, Eq)]
+pub struct BusLog {
+    pub entries: Vec<u32>,
+    pub used: usize,
+}
+
+impl BusLog {
+    /// Room for every access of so many steps, and of one more.
+    pub fn for_steps(limit: u32) -> BusLog {
+        let steps = limit.min(GREATEST_LIMIT) as usize + 1;
+        BusLog { entries: vec![0; MOST_ACCESSES * steps], used: 0 }
+    }
+
+    /// How many entries are free; none where the used count is beyond the list.
+    pub fn free(&self) -> usize {
+        self.entries.len().saturating_sub(self.used)
+    }
+
+    /// The condition of 11: the harness's own. The model has another writing of it.
+    pub fn is_full(&self) -> bool {
+        self.free() < MOST_ACCESSES
+    }
+
+    /// Appends a completed step's accesses, for which there is room.
+    pub fn append(&mut self, accesses: &[Access]) {
+        for access in accesses {
+            self.entries[self.used] = access.entry();
+            self.used += 1;
+        }
+    }
+}
+
 /// What a call is given.
 #[derive(Clone, Debug, Default, PartialEq, Eq)]
 pub struct Call {
@@ -110,6 +146,8 @@ pub struct Call {
     pub inputs: Inputs,
     pub limit: u32,
     pub pages: [Vec<u8>; 2],
+    /// Absent where no log is lent.
+    pub bus_log: Option<BusLog>,
 }
 
 /// The number of a call that is not accepted, 1 to 4, in document 01's order: the harness's own.
@@ -127,38 +165,50 @@ pub fn refusal(lengths: [usize; 2], tm: u16, limit: u32) -> Option<u8> {
     }
 }
 
-/// A vector's two reads are marked by the model; the original's reads are all plain.
+/// One access, as an entry of the bus log: bit 25 is the write mark, bits 24 to 8 are the address,
+/// bits 7 to 0 the byte. Page 0 is at 0 to FFFF, page 1 at 10000 to 1FFFF.
 #[derive(Clone, Copy, Debug, PartialEq, Eq)]
-pub enum AccessKind {
-    Read,
-    VectorHigh,
-    VectorLow,
-    Write,
-}
+pub struct Access(u32);
 
-/// One access: page 0 is at 0 to FFFF, page 1 at 10000 to 1FFFF.
-#[derive(Clone, Copy, Debug, PartialEq, Eq)]
-pub struct Access {
-    pub kind: AccessKind,
-    pub address: u32,
-    pub byte: u8,
-}
+const WRITE_MARK: u32 = 1 << 25;
 
 impl Access {
-    pub fn is_write(&self) -> bool {
-        self.kind == AccessKind::Write
+    #[inline]
+    pub fn read(address: u32, byte: u8) -> Access {
+        Access(address << 8 | u32::from(byte))
     }
 
-    /// Equal but for the mark of a vector's read.
-    pub fn same(&self, other: &Access) -> bool {
-        (self.is_write(), self.address, self.byte) == (other.is_write(), other.address, other.byte)
+    #[inline]
+    pub fn write(address: u32, byte: u8) -> Access {
+        Access(WRITE_MARK | Access::read(address, byte).0)
+    }
+
+    pub fn of_entry(entry: u32) -> Access {
+        Access(entry)
+    }
+
+    pub fn entry(&self) -> u32 {
+        self.0
+    }
+
+    pub fn is_write(&self) -> bool {
+        self.0 & WRITE_MARK != 0
+    }
+
+    pub fn address(&self) -> u32 {
+        self.0 >> 8 & 0x1_FFFF
+    }
+
+    pub fn byte(&self) -> u8 {
+        self.0 as u8
     }
 }
 
+/// `R 0004 27`, and five digits for page 1: `W 10004 27`.
 impl fmt::Display for Access {
     fn fmt(&self, f: &mut fmt::Formatter<'_>) -> fmt::Result {
         let letter = if self.is_write() { 'W' } else { 'R' };
-        write!(f, "{letter} {:05X} {:02X}", self.address, self.byte)
+        write!(f, "{letter} {:04X} {:02X}", self.address(), self.byte())
     }
 }
 
@@ -170,6 +220,8 @@ pub struct Log {
     pub starts: Vec<usize>,
     /// How many accesses belong to completed steps.
     pub completed: usize,
+    /// The places of a vector's two reads: that of the first. The model alone tells them.
+    pub vectors: Vec<usize>,
 }
 
 impl Log {
@@ -198,6 +250,8 @@ pub struct Answer {
     pub waits: u64,
     /// Absent where a side does not tell its accesses.
     pub log: Option<Log>,
+    /// The bus log after the call, where one was lent.
+    pub bus_log: Option<BusLog>,
     /// A failure of the side itself: for the original, a panic that is neither 5 nor 6.
     pub failure: Option<String>,
 }
@@ -210,6 +264,7 @@ impl Answer {
             record: call.record,
             pages: call.pages.clone(),
             log: Some(Log::default()),
+            bus_log: call.bus_log.clone(),
             ..Answer::default()
         }
     }
@@ -224,4 +279,35 @@ impl Answer {
 pub trait Side {
     fn name(&self) -> &'static str;
     fn call(&mut self, call: &Call) -> Answer;
+}
+
+#[cfg(test)]
+mod tests {
+    use super::{Access, BusLog};
+
+    /// Document 02: "bit 25 is the write mark, bits 24 to 8 the address, bits 7 to 0 the byte, the
+    /// rest zero".
+    #[test]
+    fn entries_of_accesses() {
+        assert_eq!(Access::read(0x0004, 0x27).entry(), 0x0000_0427);
+        assert_eq!(Access::write(0x7FFF, 0x12).entry(), 0x027F_FF12);
+        assert_eq!(Access::read(0x1_FFFF, 0xFF).entry(), 0x01FF_FFFF);
+        assert_eq!(Access::write(0x1_FFFF, 0xFF).entry(), 0x03FF_FFFF);
+        let access = Access::write(0x1_2345, 0x67);
+        assert_eq!((access.is_write(), access.address(), access.byte()), (true, 0x1_2345, 0x67));
+    }
+
+    #[test]
+    fn accesses_in_words() {
+        assert_eq!(Access::read(0x0004, 0x27).to_string(), "R 0004 27");
+        assert_eq!(Access::write(0x7FFF, 0x12).to_string(), "W 7FFF 12");
+        assert_eq!(Access::read(0x1_0004, 0xFF).to_string(), "R 10004 FF");
+    }
+
+    #[test]
+    fn a_log_is_full_with_less_than_seven_entries_free() {
+        let full = |length, used| BusLog { entries: vec![0; length], used }.is_full();
+        assert!(full(0, 0) && full(6, 0) && full(7, 1) && full(7, 8) && full(7, usize::MAX));
+        assert!(!full(7, 0) && !full(8, 0) && !full(8, 1) && !full(100, 93));
+    }
 }

@@ -92,7 +92,8 @@ impl Reader<'_> {
     }
 }
 
-/// Reads a whole campaign file. It has no idle figure, and its call is given 0.
+/// Reads a whole campaign file. It has no idle figure and no log: its call is given 0 and
+/// none.
 pub fn read(bytes: &[u8]) -> Result<Call, Defect> {
     let mut reader = Reader { bytes, place: 0 };
     let call = Call {
@@ -100,6 +101,7 @@ pub fn read(bytes: &[u8]) -> Result<Call, Defect> {
         inputs: Inputs::of_keyboard(reader.byte()?),
         limit: reader.number(u64::from(u32::MAX))? as u32,
         pages: [reader.page()?, reader.page()?],
+        bus_log: None,
     };
     if reader.place < bytes.len() {
         return Err(Defect { number: 10, offset: reader.place });
@@ -138,6 +140,19 @@ pub fn number(mut value: u64) -> Vec<u8> {
     groups
 }
 
+/// The worked input of document 01.
+pub const WORKED: [u8; 22] = [
+    0x00, 0x00, 0x05, 0x00, 0x00, 0x00, 0x00, 0x00, 0x08, 0x00, 0x00, 0x00, 0x00, 0x0A, 0x06, 0xB5,
+    0x15, 0xF9, 0x8C, 0x31, 0x27, 0x00,
+];
+
+/// A call's file.
+pub fn write(call: &Call) -> Vec<u8> {
+    let numbers = numbers(call).map(number);
+    let [page0, page1] = &call.pages;
+    [&numbers[..14].concat(), &numbers[14], page0, &numbers[15], page1].map(Vec::as_slice).concat()
+}
+
 /// The numbers of a call's file, in the file's order; the last two are the pages' lengths.
 pub fn numbers(call: &Call) -> [u64; 16] {
     let r = &call.record;
@@ -151,13 +166,7 @@ pub fn numbers(call: &Call) -> [u64; 16] {
 
 #[cfg(test)]
 mod tests {
-    use super::{read, Defect};
-
-    /// The worked input of document 01.
-    pub const WORKED: [u8; 22] = [
-        0x00, 0x00, 0x05, 0x00, 0x00, 0x00, 0x00, 0x00, 0x08, 0x00, 0x00, 0x00, 0x00, 0x0A, 0x06,
-        0xB5, 0x15, 0xF9, 0x8C, 0x31, 0x27, 0x00,
-    ];
+    use super::{read, write, Defect, WORKED};
 
     fn returned(bytes: &[u8]) -> (u8, usize) {
         let Defect { number, offset } = read(bytes).expect_err("the file has a defect");
@@ -180,6 +189,7 @@ mod tests {
         let call = read(&WORKED).unwrap();
         assert_eq!((call.record.x, call.record.flags(), call.limit), (5, 8, 10));
         assert_eq!(call.pages, [vec![0xB5, 0x15, 0xF9, 0x8C, 0x31, 0x27], vec![]]);
+        assert_eq!(write(&call), WORKED);
     }
 
     #[test]

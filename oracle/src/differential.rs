@@ -1,12 +1,15 @@
 //! Many steps of random programs, the original against the port, compared after every call.
 //!
 //! The work is cut into sessions. A session has two pages of its own, the same on both sides, and
-//! starts the unit on them again and again; between two calls the record is sometimes changed, as
-//! a host may do. Each start has an idle figure, 0 for about half of them; with another one the unit
-//! waits where it is halted. Every session depends on the seed and its own index only.
+//! starts the unit on them again and again; between two calls the record is sometimes changed, as a
+//! host may do. Each start has an idle figure, 0 for about half of them; with another one the unit
+//! waits where it is halted. In every fourth session each call of the port is lent a log, which is
+//! compared with the original's accesses and with the model's log. Every session depends on the
+//! seed and its own index only.
 
 #![forbid(unsafe_code)]
 
+use std::mem;
 use std::panic::{catch_unwind, AssertUnwindSafe};
 use std::sync::atomic::{AtomicBool, AtomicU64, Ordering};
 use std::thread;
@@ -14,10 +17,9 @@ use std::time::{Duration, Instant};
 
 use bare::{Pc1500, Returned, Watch};
 
-use crate::call::{Call, Inputs, Record, Side};
-use crate::compare::{self, report_smallest, slices, Comparison};
+use crate::call::{Answer, BusLog, Call, Inputs, Record, MOST_ACCESSES};
+use crate::compare::{self, ends_in_words, report_smallest, slices, Comparison, Logs};
 use crate::opcodes::table;
-use crate::original::Original;
 use crate::port::{self, Port};
 use crate::progress::Progress;
 use crate::random::{self, Random};
@@ -32,10 +34,12 @@ const LEAST_WAITS: u64 = 100;
 const SESSION: u64 = 30_000;
 /// Of a hundred starts with an idle figure above 0, so many are parked.
 const PARKED: u64 = 40;
-/// Every so many sessions, the calls run through the original's own panics too.
-const SAMPLE: u64 = 8;
-/// The greatest limit of such a call: its accesses are logged.
-const SAMPLE_LIMIT: u32 = 20_000;
+/// One of so many sessions has a log, and runs through the original's own panics and the model too.
+const LOGGED: u64 = 4;
+/// Of a hundred steps that make an access at least so many have a log.
+const LEAST_LOGGED: u64 = 10;
+/// The greatest limit of a call with a log.
+const LOGGED_LIMIT: u32 = 20_000;
 
 pub struct Settings {
     pub steps: u64,
@@ -48,8 +52,8 @@ pub struct Settings {
 struct Counts {
     calls: u64,
     steps: u64,
-    sampled: u64,
-    stops: [u64; 8],
+    logs: Logs,
+    stops: [u64; 12],
     executed: [[u64; 256]; 2],
     unlisted: [[u64; 256]; 2],
     off: u64,
@@ -71,8 +75,8 @@ impl Counts {
         Counts {
             calls: 0,
             steps: 0,
-            sampled: 0,
-            stops: [0; 8],
+            logs: Logs::default(),
+            stops: [0; 12],
             executed: [[0; 256]; 2],
             unlisted: [[0; 256]; 2],
             off: 0,
@@ -114,7 +118,7 @@ impl Counts {
         }
         self.calls += other.calls;
         self.steps += other.steps;
-        self.sampled += other.sampled;
+        self.logs.join(&other.logs);
         self.off += other.off;
         self.held += other.held;
         self.waits.join(&other.waits);
@@ -139,16 +143,15 @@ impl Counts {
     }
 
     fn print(&self) {
-        let list = |counts: &[u64]| {
-            let pairs = counts.iter().enumerate();
-            pairs.map(|(i, count)| format!("{i}: {count}")).collect::<Vec<_>>().join(" ")
-        };
-        println!("stops: {}", list(&self.stops));
+        println!("stops:{}", ends_in_words(&self.stops));
         let [none, one, few, many, more] = self.sizes;
         println!(
             "calls by completed steps: none {none}, one {one}, to 20 {few}, to 1,000 {many}, \
-             above {more}; through the original's panics too: {}",
-            self.sampled
+             above {more}"
+        );
+        println!("{}", self.logs);
+        println!(
+            "  compared with the original's accesses, in runs through its panics, and the model"
         );
         println!(
             "steps with an interrupt {} (of a halted unit {}), with BF clear {}, with IR0 set {}",
@@ -225,8 +228,10 @@ struct Session<'a> {
     /// Calls and steps of this session.
     calls: u64,
     steps: u64,
-    /// Calls run through the original's panics too.
-    sampled: bool,
+    /// The log of the next call, in a session with logs.
+    bus_log: Option<BusLog>,
+    /// The original with its panics, the model and the port, for calls with a log.
+    comparison: Comparison,
     /// The number of the call that is wanted, in place of a comparison.
     wanted: Option<u64>,
 }
@@ -249,7 +254,9 @@ impl Session<'_> {
             figure: index.wrapping_mul(97),
             calls: 0,
             steps: 0,
-            sampled: index.is_multiple_of(SAMPLE),
+            // Two sessions in turn, so that two threads have as many.
+            bus_log: (index / 2).is_multiple_of(LOGGED).then(BusLog::default),
+            comparison: Comparison::new(Box::new(Port)),
             wanted,
         }
     }
@@ -270,6 +277,7 @@ impl Session<'_> {
     fn start(&mut self) {
         self.record = random::record(&mut self.random, self.lengths);
         self.inputs.idle = self.idle();
+        self.new_log();
         if self.inputs.idle != 0 && self.random.chance(PARKED) {
             random::park(&mut self.random, &mut self.record);
         }
@@ -288,6 +296,29 @@ impl Session<'_> {
         }
     }
 
+    /// In a session with logs, another list: short at times, mostly long enough for hundreds of
+    /// steps.
+    fn new_log(&mut self) {
+        if self.bus_log.is_none() {
+            return;
+        }
+        let used = self.random.below(20) as usize;
+        let free = match self.random.below(20) {
+            0 => self.random.below(40) as usize,
+            _ => 1000 + self.random.below(3000) as usize,
+        };
+        let length = used + MOST_ACCESSES + free;
+        self.bus_log = Some(random::garbage(&mut self.random, length, used));
+    }
+
+    /// Between two calls: a full log is emptied, any other one handed on.
+    fn empty_log(&mut self) {
+        if self.bus_log.as_ref().is_some_and(BusLog::is_full) {
+            let few = self.random.below(4) as usize;
+            self.bus_log.as_mut().unwrap().used = few;
+        }
+    }
+
     /// The idle figure of a start: 0 for half of them, now and then an edge, else the next one of
     /// 1 to 255, so that all of them come equally often.
     fn idle(&mut self) -> u8 {
@@ -301,52 +332,85 @@ impl Session<'_> {
         }
     }
 
-    /// One call; false where it stopped.
+    /// One call; false where it stopped otherwise than with a full log.
     fn next(&mut self) -> Result<bool, Ended> {
         let limit = match self.is_quiet() {
             true => 1 + self.random.below(40) as u32,
             false => limit(&mut self.random),
         };
         if self.wanted == Some(self.calls) {
-            return Err(Ended::Reached(Box::new(self.call(limit))));
+            return Err(Ended::Reached(Box::new(self.take_call(limit))));
         }
         let returned = self.compare(limit).map_err(|how| Ended::Differs(self.calls, how))?;
         self.calls += 1;
         self.steps += returned.steps;
         self.record = self.machine.lh5801.record();
-        Ok(returned.number == 0)
+        Ok(returned.number == 0 || returned.number == 11)
     }
 
-    /// The call that comes next, with its own pages.
-    fn call(&self, limit: u32) -> Call {
-        Call { record: self.record, inputs: self.inputs, limit, pages: self.pages.clone() }
+    /// The call that comes next, with the port's pages and, where the session has one, its log.
+    fn take_call(&mut self, limit: u32) -> Call {
+        let bus_log = self.bus_log.clone().filter(|_| limit <= LOGGED_LIMIT);
+        let pages = mem::take(&mut self.pages);
+        Call { record: self.record, inputs: self.inputs, limit, pages, bus_log }
     }
 
     /// Runs a call on both sides; tells the first difference.
     fn compare(&mut self, limit: u32) -> Result<Returned, String> {
-        let sampled = self.sampled && limit <= SAMPLE_LIMIT;
-        let whole = sampled.then(|| Original.call(&self.call(limit)));
-        self.machine.begin(&self.record, self.inputs);
-        let returned = self.machine.original_run(limit, self.counts);
-        let port = port::call(&self.record, self.inputs, limit, &mut self.pages);
-        let record = self.machine.lh5801.record();
-        if let Some(how) = compare::returned_difference(&returned, &record, &port) {
-            return Err(how);
+        if self.bus_log.is_some() && limit <= LOGGED_LIMIT {
+            return self.compare_logged(limit);
         }
-        let own = [&self.machine.page0[..], &self.machine.page1[..]];
-        if let Some(how) = compare::pages_difference(own, slices(&self.pages)) {
-            return Err(how);
-        }
-        if let Some(whole) = whole {
-            self.counts.sampled += 1;
-            let returned = compare::returned_difference(&returned, &record, &whole);
-            let pages = compare::pages_difference(own, slices(&whole.pages));
-            if let Some(how) = returned.or(pages) {
-                return Err(format!("the original without and with its panics: {how}"));
-            }
-        }
+        let returned = self.run_bare(limit);
+        let port = port::call(&self.record, self.inputs, limit, &mut self.pages, None);
+        self.compare_bare(&returned, &port)?;
         self.counts.call(&self.record, &returned, self.lengths);
         Ok(returned)
+    }
+
+    /// The original without its log.
+    fn run_bare(&mut self, limit: u32) -> Returned {
+        self.machine.begin(&self.record, self.inputs);
+        self.machine.original_run(limit, self.counts)
+    }
+
+    /// Compares what the original without its log returned and left with the port's answer and
+    /// pages.
+    fn compare_bare(&self, returned: &Returned, port: &Answer) -> Result<(), String> {
+        let record = self.machine.lh5801.record();
+        let own = [&self.machine.page0[..], &self.machine.page1[..]];
+        compare::returned_difference(returned, &record, port)
+            .or_else(|| compare::pages_difference(own, slices(&self.pages)))
+            .map_or(Ok(()), Err)
+    }
+
+    /// Runs a call with a log on the original with its panics, the model and the port, and then as
+    /// many steps on the original without its log.
+    fn compare_logged(&mut self, limit: u32) -> Result<Returned, String> {
+        let call = self.take_call(limit);
+        let (original, mut port, difference) = self.comparison.both(&call);
+        if let Some(how) = difference {
+            return Err(how);
+        }
+        let Answer { number, byte, steps, states, .. } = original;
+        let returned = Returned { number, byte, steps, states };
+        let bare = match (number, steps) {
+            (11, 0) => self.returned_at_once(),
+            (11, _) => Returned { number, ..self.run_bare(steps as u32) },
+            _ => self.run_bare(limit),
+        };
+        self.pages = mem::take(&mut port.pages);
+        self.compare_bare(&bare, &port)
+            .map_err(|how| format!("the original without and with its panics: {how}"))?;
+        self.counts.call(&self.record, &returned, self.lengths);
+        self.counts.logs.add(&call, &original);
+        self.bus_log = port.bus_log;
+        Ok(returned)
+    }
+
+    /// A call of the original without its log that ends before its first step: 11 is not its own.
+    fn returned_at_once(&mut self) -> Returned {
+        self.machine.begin(&self.record, self.inputs);
+        Returned { number: 11, ..Returned::default() }
     }
 
     /// The next step waits.
@@ -364,6 +428,7 @@ impl Session<'_> {
 
     /// Between two calls: sometimes another record.
     fn change(&mut self) {
+        self.empty_log();
         if self.is_quiet() && self.random.chance(60) {
             // A parked unit goes on. One that is off or held may be halted besides, and stays so.
             self.record.is_halted &= !self.is_parked();
@@ -475,6 +540,10 @@ pub fn run(settings: &Settings) -> bool {
     }
     counts.print();
     let seconds = begin.elapsed().as_secs_f64();
+    let Logs { steps: logged, busy, entries, .. } = counts.logs;
+    println!(
+        "{logged} steps with a log, {busy} of them with an access: {entries} entries compared"
+    );
     println!("{} calls, {} steps, 0 differences, {seconds:.1} s", counts.calls, counts.steps);
     came_often_enough(&counts, *steps)
 }
@@ -484,7 +553,8 @@ fn share(least: u64, steps: u64) -> u64 {
     least.min(steps / (100_000_000 / least))
 }
 
-/// Whether every opcode was executed, and every idle figure waited with, as often as it has to be.
+/// Whether every opcode was executed, every idle figure waited with, and steps made with a log, as
+/// often as it has to be.
 fn came_often_enough(counts: &Counts, steps: u64) -> bool {
     let least = share(LEAST, steps);
     let rarest = (0..2).map(|page| counts.rarest(page).1).min().unwrap_or(0);
@@ -496,7 +566,12 @@ fn came_often_enough(counts: &Counts, steps: u64) -> bool {
     if waits < least_waits {
         println!("the idle figure {idle} had {waits} waiting steps only, less than {least_waits}");
     }
-    rarest >= least && waits >= least_waits
+    let logged = counts.logs.busy;
+    let least_logged = steps * LEAST_LOGGED / 100;
+    if logged < least_logged {
+        println!("{logged} steps with an access had a log only, less than {least_logged}");
+    }
+    rarest >= least && waits >= least_waits && logged >= least_logged
 }
 
 /// Prints the smallest input for a difference, from the session made once more up to that call.

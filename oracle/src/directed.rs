@@ -4,20 +4,20 @@
 
 use crate::call::Record;
 use crate::list::Sparse;
-use crate::opcodes::table;
+use crate::opcodes::{table, Kind};
 
 /// BF set, nothing else.
-const ON: u16 = 0x008;
+pub const ON: u16 = 0x008;
 
 /// A record with these flags and zeros.
-fn flagged(flags: u16) -> Record {
+pub fn flagged(flags: u16) -> Record {
     let mut record = Record::default();
     record.set_flags(flags);
     record
 }
 
 /// A call of page 0 with this code at 0 and nothing else.
-fn code(record: Record, limit: u32, bytes: &[u8]) -> Sparse {
+pub fn code(record: Record, limit: u32, bytes: &[u8]) -> Sparse {
     Sparse {
         record,
         limit,
@@ -29,6 +29,14 @@ fn code(record: Record, limit: u32, bytes: &[u8]) -> Sparse {
 
 /// All groups, with a title each.
 pub fn groups() -> Vec<(String, Vec<Sparse>)> {
+    let mut groups = cases();
+    groups.push(("the first page's opcodes".to_string(), opcodes(0)));
+    groups.push(("the opcodes after FD".to_string(), opcodes(1)));
+    groups
+}
+
+/// The groups before those of the opcodes.
+pub fn cases() -> Vec<(String, Vec<Sparse>)> {
     let mut groups = vec![];
     for (number, cases) in marked() {
         groups.push((format!("marked case {number}"), cases));
@@ -40,8 +48,6 @@ pub fn groups() -> Vec<(String, Vec<Sparse>)> {
     groups.push(("timer difference 41, 42 and previous above current".to_string(), differences()));
     groups.push(("order of a step".to_string(), orders()));
     groups.push(("vector FF and the stack over the vectors".to_string(), vectors()));
-    groups.push(("the first page's opcodes".to_string(), opcodes(0)));
-    groups.push(("the opcodes after FD".to_string(), opcodes(1)));
     groups
 }
 
@@ -215,7 +221,7 @@ fn vectors() -> Vec<Sparse> {
 fn opcodes(page: usize) -> Vec<Sparse> {
     let mut cases = vec![];
     for byte in 0..=255_u8 {
-        let mut bytes = if page == 1 { vec![0xFD, byte] } else { vec![byte] };
+        let mut bytes = executed(page, byte);
         if page == 0 && byte == 0xFD {
             bytes.push(0xCC);
         }
@@ -225,6 +231,29 @@ fn opcodes(page: usize) -> Vec<Sparse> {
         }
     }
     cases
+}
+
+/// The bytes of an opcode of a page.
+fn executed(page: usize, byte: u8) -> Vec<u8> {
+    if page == 1 {
+        vec![0xFD, byte]
+    } else {
+        vec![byte]
+    }
+}
+
+/// Each listed opcode once, the prefix apart: over short pages and over whole ones in turn.
+pub fn listed() -> Vec<Sparse> {
+    let bytes = (0..2).flat_map(|page| (0..=255_u8).map(move |byte| (page, byte)));
+    let listed = bytes.filter(|(page, byte)| {
+        let entry = table()[*page][usize::from(*byte)];
+        entry.is_some_and(|entry| entry.kind != Kind::Prefix)
+    });
+    let case = |(index, (page, byte)): (usize, (usize, u8))| match index % 2 {
+        0 => with_flags_clear(&executed(page, byte)),
+        _ => with_flags_set(&executed(page, byte)),
+    };
+    listed.enumerate().map(case).collect()
 }
 
 fn with_flags_clear(bytes: &[u8]) -> Sparse {

@@ -10,7 +10,7 @@ use std::time::{Duration, Instant};
 use bare::Pc1500;
 
 use crate::call::{Call, Side};
-use crate::campaign::{self, number, numbers, GREATEST};
+use crate::campaign::{self, number, numbers, GREATEST, WORKED};
 use crate::lines::Source;
 use crate::original::Original;
 use crate::progress::Progress;
@@ -178,10 +178,6 @@ fn noise(random: &mut Random) -> Vec<u8> {
 /// Files that every campaign begins with: each prefix of document 01's worked input and of a file
 /// with long numbers, and each number at its edges.
 fn directed() -> Vec<Vec<u8>> {
-    let worked = [
-        0x00, 0x00, 0x05, 0x00, 0x00, 0x00, 0x00, 0x00, 0x08, 0x00, 0x00, 0x00, 0x00, 0x0A, 0x06,
-        0xB5, 0x15, 0xF9, 0x8C, 0x31, 0x27, 0x00,
-    ];
     let mut random = Random::new(3, 0);
     let mut long = Draft::of(&short_loop(&mut random));
     for (form, greatest) in long.numbers.iter_mut().zip(GREATEST).take(LENGTH_0) {
@@ -189,7 +185,7 @@ fn directed() -> Vec<Vec<u8>> {
     }
     long.resize(1, 200);
     let long_bytes = long.bytes();
-    let mut files: Vec<Vec<u8>> = (0..=worked.len()).map(|i| worked[..i].to_vec()).collect();
+    let mut files: Vec<Vec<u8>> = (0..=WORKED.len()).map(|i| WORKED[..i].to_vec()).collect();
     files.extend((0..=long_bytes.len()).map(|i| long_bytes[..i].to_vec()));
     let base = Draft::of(&short_loop(&mut random));
     for field in 0..16 {

@@ -12,7 +12,7 @@ use crate::progress::Progress;
 use crate::random::{self, Random};
 
 /// A call with sparse memory: lengths, a rule for every byte, and the bytes set after it. Its idle
-/// figure is 0.
+/// figure is 0, and it has no log.
 #[derive(Clone, Debug, Default, PartialEq, Eq)]
 pub struct Sparse {
     pub record: Record,
@@ -48,7 +48,7 @@ impl Sparse {
             place.copy_from_slice(bytes);
         }
         let inputs = Inputs::of_keyboard(self.keyboard);
-        Ok(Call { record: self.record, inputs, limit: self.limit, pages })
+        Ok(Call { record: self.record, inputs, limit: self.limit, pages, bus_log: None })
     }
 }
 
@@ -73,7 +73,7 @@ impl Expected {
             steps: answer.steps,
             states: answer.states,
             record: answer.record,
-            writes: writes.map(|write| (write.address, write.byte)).collect(),
+            writes: writes.map(|write| (write.address(), write.byte())).collect(),
         }
     }
 }
@@ -209,7 +209,7 @@ const FORMAT: &str = "\
 ";
 
 /// A random call that makes a short line.
-fn random_sparse(random: &mut Random) -> Sparse {
+pub fn random_sparse(random: &mut Random) -> Sparse {
     let lengths = [random::length(random), random::length(random)];
     let mut record = random::record(random, lengths);
     // Three digits, and no more than a campaign file can hold.

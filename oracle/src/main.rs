@@ -10,11 +10,16 @@ mod campaign;
 mod compare;
 mod differential;
 mod directed;
+#[cfg(test)]
+mod faults;
 mod fuzz;
 mod halted;
 mod help;
+mod item;
+mod items;
 mod lines;
 mod list;
+mod logs;
 mod memory;
 mod model;
 mod original;
@@ -28,7 +33,9 @@ mod replay;
 mod rerun;
 mod shrink;
 mod speed;
+mod speed_log;
 mod symbols;
+mod traces;
 mod waits;
 
 // The included file names these two from the crate's root.
@@ -43,7 +50,7 @@ use std::process::ExitCode;
 
 use arguments::Arguments;
 use bare::{call, opcodes};
-use call::{Answer, Call, Side};
+use call::{Access, Answer, BusLog, Side};
 use help::HELP;
 use lines::Source;
 use model::Model;
@@ -55,6 +62,9 @@ use port::Port;
 const CAMPAIGN: &str = concat!(env!("CARGO_MANIFEST_DIR"), "/../target/bin/campaign");
 const REPLAY: &str = concat!(env!("CARGO_MANIFEST_DIR"), "/../crates/replay/data");
 const BENCH: &str = concat!(env!("CARGO_MANIFEST_DIR"), "/../../shared/bench");
+
+/// All sides.
+const SIDES: [&str; 3] = ["original", "model", "port"];
 
 const WITHOUT_PROBE: &str = "this oracle was built without the feature `probe`";
 
@@ -79,41 +89,40 @@ fn read_input(file: Option<&str>) -> Result<Vec<u8>, String> {
     Ok(bytes)
 }
 
+/// Without a side it is the original's line, or the port's trace. The log of a trace never fills.
 fn run(arguments: &Arguments) -> Result<bool, String> {
+    let trace = arguments.has("--trace");
+    let name = arguments.option("--side").unwrap_or(if trace { "port" } else { "original" });
+    let mut side = side(name, &SIDES)?;
     let bytes = read_input(arguments.positional(1)?)?;
-    let call = match campaign::read(&bytes) {
+    let mut call = match campaign::read(&bytes) {
         Ok(call) => call,
         Err(defect) => {
             println!("{}", defect.line());
             return Ok(true);
         }
     };
-    let answer = match arguments.has("--model") {
-        true => Model::default().call(&call),
-        false => Original.call(&call),
+    call.bus_log = trace.then(|| BusLog::for_steps(call.limit));
+    let answer = match name {
+        "original" if trace => compare::ordered_original(&call),
+        _ => side.call(&call),
     };
-    if arguments.has("--trace") {
-        trace(&call, &answer);
+    if let Some(message) = &answer.failure {
+        return Err(format!("the side failed: {message}"));
     }
-    match &answer.failure {
-        Some(message) => Err(format!("the side failed: {message}")),
-        None => {
-            println!("{}", answer.line());
-            Ok(true)
-        }
-    }
+    print_trace(&answer).map_err(|error| format!("writing the trace: {error}"))?;
+    println!("{}", answer.line());
+    Ok(true)
 }
 
-/// Each step's accesses, the stopping step's included.
-fn trace(call: &Call, answer: &Answer) {
-    let Some(log) = &answer.log else { return };
-    let mut out = BufWriter::new(io::stderr().lock());
-    let _ = writeln!(out, "given: {}", call.record);
-    for index in 0..log.starts.len() {
-        let accesses: Vec<String> = log.step(index).iter().map(|a| a.to_string()).collect();
-        let _ = writeln!(out, "step {}: {}", index + 1, accesses.join(", "));
+/// The log's entries, one a line; nothing where there is no log.
+fn print_trace(answer: &Answer) -> io::Result<()> {
+    let Some(log) = &answer.bus_log else { return Ok(()) };
+    let mut out = BufWriter::new(io::stdout().lock());
+    for entry in &log.entries[..log.used] {
+        writeln!(out, "{}", Access::of_entry(*entry))?;
     }
-    let _ = writeln!(out, "stop {} byte {:02X}", answer.number, answer.byte);
+    out.flush()
 }
 
 /// A command that runs the port is there with the feature `port` only.
@@ -172,6 +181,11 @@ fn replay(arguments: &Arguments) -> Result<bool, String> {
     replay::run(Path::new(folder), lines::LIBRARY.ok_or_else(missing)?)
 }
 
+fn items(arguments: &Arguments) -> Result<bool, String> {
+    let folder = arguments.option("--out").ok_or("--out DIR is missing")?;
+    items::write(arguments.count()?, arguments.seed()?, Path::new(folder)).map(|()| true)
+}
+
 fn speed(arguments: &Arguments) -> Result<bool, String> {
     arguments.positional(0)?;
     wants_port()?;
@@ -193,7 +207,11 @@ fn once(arguments: &Arguments) -> Result<bool, String> {
     if way == "port" {
         wants_port()?;
     }
-    println!("{}", speed::once(way, Path::new(file))?);
+    let is_logged = arguments.has("--log");
+    if is_logged && way != "port" {
+        return Err("--log is of the port alone".to_string());
+    }
+    println!("{}", speed::once(way, Path::new(file), is_logged)?);
     Ok(true)
 }
 
@@ -223,7 +241,7 @@ fn list(arguments: &Arguments) -> Result<bool, String> {
 
 fn check(file: &str, name: &str) -> Result<bool, String> {
     let text = std::fs::read_to_string(file).map_err(|error| format!("{file}: {error}"))?;
-    let mut side = side(name, &["original", "model", "port"])?;
+    let mut side = side(name, &SIDES)?;
     let (calls, differing) = list::check(&text, side.as_mut())?;
     for line in &differing {
         println!("line {line} differs");
@@ -247,16 +265,17 @@ fn arithmetic(_: &Arguments) -> Result<bool, String> {
 type Command =
     (&'static str, &'static str, &'static [&'static str], fn(&Arguments) -> Result<bool, String>);
 
-const COMMANDS: [Command; 12] = [
-    ("run", help::RUN_HELP, &["--model", "--trace"], run),
+const COMMANDS: [Command; 13] = [
+    ("run", help::RUN_HELP, &["--side=", "--trace"], run),
     ("compare", help::COMPARE_HELP, &["--seed=", "--side="], compare),
     ("differential", help::DIFFERENTIAL_HELP, &["--steps=", "--seed=", "--threads="], differential),
     ("rerun", help::RERUN_HELP, &["--seed="], rerun),
     ("park", help::PARK_HELP, &[], park),
     ("campaign", help::CAMPAIGN_HELP, &["--seed=", "--program="], campaign),
     ("replay", help::REPLAY_HELP, &[], replay),
+    ("items", help::ITEMS_HELP, &["--seed=", "--out="], items),
     ("speed", help::SPEED_HELP, &["--rounds=", "--bench=", "--least="], speed),
-    ("once", help::ONCE_HELP, &[], once),
+    ("once", help::ONCE_HELP, &["--log"], once),
     ("symbols", help::SYMBOLS_HELP, &[], symbols),
     ("list", help::LIST_HELP, &["--seed=", "--out=", "--check=", "--side="], list),
     ("arithmetic", help::ARITHMETIC_HELP, &[], arithmetic),

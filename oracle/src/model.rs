@@ -7,7 +7,7 @@
 #![forbid(unsafe_code)]
 
 use crate::call::{
-    AccessKind, Answer, Call, Inputs, Record, Side, GREATEST_LIMIT, GREATEST_PAGE, GREATEST_TM,
+    Access, Answer, BusLog, Call, Inputs, Record, Side, GREATEST_LIMIT, GREATEST_PAGE, GREATEST_TM,
 };
 use crate::memory::Memory;
 use crate::opcodes::{
@@ -35,7 +35,7 @@ pub enum Slip {
     LoopTestsAfterDecrement,
 }
 
-/// A stop inside a step: 5, 6 or 7, and the byte.
+/// A stop before or inside a step: 11, 5, 6 or 7, and the byte.
 struct Stop {
     number: u8,
     byte: u8,
@@ -51,24 +51,38 @@ impl Side for Model {
             return Answer::refused(call, number);
         }
         let mut memory = Memory::new(call.pages.clone());
-        let mut answer = Answer { record: call.record, ..Answer::default() };
+        let bus_log = call.bus_log.clone();
+        let mut answer = Answer { record: call.record, bus_log, ..Answer::default() };
         for _ in 0..call.limit {
-            match self.step(answer.record, call.inputs, &mut memory) {
-                Ok((record, states)) => {
-                    answer.record = record;
-                    answer.states += states;
-                    answer.steps += 1;
-                }
-                Err(stop) => {
-                    memory.undo_step();
-                    (answer.number, answer.byte) = (stop.number, stop.byte);
-                    break;
-                }
+            if let Err(stop) = self.next(call.inputs, &mut memory, &mut answer) {
+                (answer.number, answer.byte) = (stop.number, stop.byte);
+                break;
             }
         }
         let (pages, log) = memory.finish(answer.steps);
         Answer { pages, log: Some(log), ..answer }
     }
+}
+
+/// Document 02, F-2: 11 comes before 5, 6 and 7, "when fewer than seven entries are free before a
+/// step, or the used count is beyond the list".
+fn check_room(log: &BusLog) -> Result<(), Stop> {
+    let behind = log.used.checked_add(7);
+    match behind.is_some_and(|behind| behind <= log.entries.len()) {
+        true => Ok(()),
+        false => Err(Stop { number: 11, byte: 0 }),
+    }
+}
+
+/// "Each access of a completed step is appended in order: bit 25 is the write mark, bits 24 to 8
+/// the address, bits 7 to 0 the byte, the rest zero."
+fn append(log: &mut BusLog, accesses: &[Access]) {
+    let free = &mut log.entries[log.used..];
+    for (entry, access) in free.iter_mut().zip(accesses) {
+        let mark = if access.is_write() { 33_554_432 } else { 0 };
+        *entry = mark + 256 * access.address() + u32::from(access.byte());
+    }
+    log.used += accesses.len();
 }
 
 /// The conditions of 1 to 4, in document 01's order.
@@ -83,6 +97,23 @@ fn refusal(call: &Call) -> Option<u8> {
 }
 
 impl Model {
+    /// The next step of a call: what it adds to the answer, or a stop.
+    fn next(&self, inputs: Inputs, memory: &mut Memory, answer: &mut Answer) -> Result<(), Stop> {
+        answer.bus_log.as_ref().map_or(Ok(()), check_room)?;
+        let step = self.step(answer.record, inputs, memory);
+        if step.is_err() {
+            memory.undo_step();
+        }
+        let (record, states) = step?;
+        answer.record = record;
+        answer.states += states;
+        answer.steps += 1;
+        if let Some(log) = &mut answer.bus_log {
+            append(log, memory.step());
+        }
+        Ok(())
+    }
+
     /// One step: the record after it and its states, or a stop.
     fn step(
         &self,
@@ -589,7 +620,7 @@ impl Step<'_> {
     }
 
     fn read(&mut self, address: u32) -> u8 {
-        self.memory.read(address, AccessKind::Read)
+        self.memory.read(address)
     }
 
     /// The next byte of the code; P wraps at FFFF.
@@ -607,8 +638,9 @@ impl Step<'_> {
 
     /// The high byte is read first; the second byte of vector FF is at 10000.
     fn vector_word(&mut self, address: u32) -> u16 {
-        let high = self.memory.read(address, AccessKind::VectorHigh);
-        let low = self.memory.read(address + 1, AccessKind::VectorLow);
+        self.memory.mark_vector();
+        let high = self.read(address);
+        let low = self.read(address + 1);
         u16::from_be_bytes([high, low])
     }
 

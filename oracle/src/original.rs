@@ -1,9 +1,10 @@
 //! The original `lh5801.rs`, included unchanged but for one name, over the flat memory.
 //!
-//! What is the original's own: a completed step, a waiting one too, and stops 5 and 6, which are its
-//! panics. What is this harness's own: 1 to 4 and stop 7, the undoing of a step that stops, the
-//! states that a halted step adds (`halted_states`, the one place where the build changes the
-//! included text), and everything that the file expects of the machine around it.
+//! What is the original's own: a completed step, a waiting one too, and stops 5 and 6, which are
+//! its panics, and every access. What is this harness's own: 1 to 4, 7 and 11, the undoing of a
+//! step that stops, the bus log's entries, made of those accesses, the states that a halted step
+//! adds (`halted_states`, the one place where the build changes the included text), and everything
+//! that the file expects of the machine around it.
 
 #![forbid(unsafe_code)]
 
@@ -13,7 +14,7 @@ use std::panic::{catch_unwind, set_hook, take_hook, AssertUnwindSafe};
 use std::sync::Once;
 
 use self::lh5801::Lh5801;
-use crate::call::{refusal, AccessKind, Answer, Call, Inputs, Record, Side};
+use crate::call::{refusal, Answer, BusLog, Call, Inputs, Record, Side};
 use crate::memory::Memory;
 use bare::Keyboard;
 
@@ -107,24 +108,39 @@ pub struct Pc1500 {
 
 impl Pc1500 {
     pub fn new(record: &Record, inputs: Inputs, pages: [Vec<u8>; 2]) -> Pc1500 {
-        Pc1500 {
-            lh5801: Lh5801::from_record(record),
-            keyboard: Keyboard { byte: inputs.keyboard },
-            idle: inputs.idle,
-            memory: Memory::new(pages),
-        }
+        Pc1500::over(record, inputs, Memory::new(pages))
     }
 
+    pub fn over(record: &Record, inputs: Inputs, memory: Memory) -> Pc1500 {
+        let keyboard = Keyboard { byte: inputs.keyboard };
+        Pc1500 { lh5801: Lh5801::from_record(record), keyboard, idle: inputs.idle, memory }
+    }
+
+    /// Makes ready for steps from this record.
+    pub fn begin(&mut self, record: &Record) {
+        self.lh5801 = Lh5801::from_record(record);
+    }
+
+    #[inline]
     pub fn read_byte(&self, address: u32) -> u8 {
-        self.memory.read(address, AccessKind::Read)
+        self.memory.read(address)
     }
 
+    #[inline]
     pub fn write_byte(&mut self, address: u32, byte: u8) {
         self.memory.write(address, byte);
     }
 
     pub fn host_trap(&mut self) -> bool {
         false
+    }
+
+    /// So many steps of the original and nothing else: no stop is looked for.
+    #[inline(never)]
+    pub fn logged_steps(&mut self, steps: u32) {
+        for _ in 0..steps {
+            self.step_cpu();
+        }
     }
 }
 
@@ -178,16 +194,24 @@ fn step(machine: &mut Pc1500) -> Result<(), Panicked> {
 #[derive(Default)]
 pub struct Original;
 
+/// The harness's own stops before a step: 11 before every step, then 7, with the idle figure 0
+/// only.
+fn stop(answer: &Answer, idle: u8) -> Option<u8> {
+    if answer.bus_log.as_ref().is_some_and(BusLog::is_full) {
+        return Some(11);
+    }
+    (answer.record.begins_halted_step() && idle == 0).then_some(7)
+}
+
 impl Original {
-    /// Steps until the limit or a stop; leaves the number, byte, counts and record in the answer.
+    /// Steps until the limit or a stop; leaves the number, byte, counts, record and log in the
+    /// answer.
     fn run(machine: &mut Pc1500, limit: u32, answer: &mut Answer) {
         for _ in 0..limit {
             let before = machine.lh5801.record();
             answer.record = before;
-            let halted = before.begins_halted_step();
-            // The harness's own stop 7. With any other idle figure the original steps, and waits.
-            if halted && machine.idle == 0 {
-                answer.number = 7;
+            if let Some(number) = stop(answer, machine.idle) {
+                answer.number = number;
                 return;
             }
             if let Err(reason) = step(machine) {
@@ -202,8 +226,11 @@ impl Original {
             }
             answer.record = machine.lh5801.record();
             answer.steps += 1;
-            answer.waits += u64::from(halted);
+            answer.waits += u64::from(before.begins_halted_step());
             answer.states += answer.record.timer_state.wrapping_sub(before.timer_state);
+            if let Some(log) = &mut answer.bus_log {
+                log.append(machine.memory.step());
+            }
         }
     }
 }
@@ -220,7 +247,7 @@ impl Side for Original {
             return Answer::refused(call, number);
         }
         let mut machine = Pc1500::new(&call.record, call.inputs, call.pages.clone());
-        let mut answer = Answer::default();
+        let mut answer = Answer { bus_log: call.bus_log.clone(), ..Answer::default() };
         Original::run(&mut machine, call.limit, &mut answer);
         let (pages, log) = machine.memory.finish(answer.steps);
         Answer { pages, log: Some(log), ..answer }

@@ -4,7 +4,7 @@
 
 #![forbid(unsafe_code)]
 
-use crate::call::{Call, Inputs, Record};
+use crate::call::{BusLog, Call, Inputs, Record, MOST_ACCESSES};
 use crate::opcodes::table;
 
 #[derive(Clone)]
@@ -272,7 +272,7 @@ pub fn call(random: &mut Random) -> Call {
         }
     }
     let inputs = Inputs::of_keyboard(random.byte());
-    Call { record, inputs, limit: limit(random), pages }
+    Call { record, inputs, limit: limit(random), pages, bus_log: None }
 }
 
 /// An idle figure: 0 in half of the calls, else often an edge.
@@ -302,6 +302,49 @@ pub fn with_idle(random: &mut Random, mut call: Call) -> Call {
         park(random, &mut call.record);
     }
     call
+}
+
+/// A random call with an idle figure and, in six of ten calls, a log.
+pub fn logged_call(random: &mut Random) -> Call {
+    let mut call = idle_call(random);
+    if random.chance(60) {
+        call.bus_log = Some(bus_log(random, call.limit));
+    }
+    call
+}
+
+/// A log for a call of this limit: empty, used beyond its end, with few free entries, or with
+/// enough for many steps.
+fn bus_log(random: &mut Random, limit: u32) -> BusLog {
+    let used = random.below(30) as usize;
+    let enough = MOST_ACCESSES * limit.min(3000) as usize;
+    match random.below(12) {
+        0 => garbage(random, 0, used % 3),
+        1 => garbage_beyond(random, used),
+        2..=5 => garbage_around(random, used, 21),
+        6 => garbage_around(random, used, 300),
+        _ => garbage(random, used + enough + 5, used),
+    }
+}
+
+/// So many entries are free, less than this number.
+fn garbage_around(random: &mut Random, used: usize, end: u64) -> BusLog {
+    let free = random.below(end) as usize;
+    garbage(random, used + free, used)
+}
+
+/// The used count is beyond the list, often so far that a sum with it would wrap.
+fn garbage_beyond(random: &mut Random, length: usize) -> BusLog {
+    let few = random.below(9) as usize;
+    let used = random.pick(&[length + 1 + few, usize::MAX - few, 1 << 32, 1 << 63]);
+    garbage(random, length, used)
+}
+
+/// A log of this length with so many used, full of numbers that mean nothing.
+pub fn garbage(random: &mut Random, length: usize, used: usize) -> BusLog {
+    let fill = random.pick(&[None, None, Some(0), Some(u32::MAX)]);
+    let entries = (0..length).map(|_| fill.unwrap_or_else(|| random.next() as u32)).collect();
+    BusLog { entries, used }
 }
 
 /// Parks the unit: halted, BF set, IR0 clear, half of the time a request; mostly IE set, and often
@@ -373,7 +416,7 @@ pub fn change(random: &mut Random, record: &mut Record, lengths: [usize; 2]) {
 
 #[cfg(test)]
 mod tests {
-    use super::{call, idle, idle_call, Random};
+    use super::{call, idle, idle_call, logged_call, Random};
 
     /// 0 is half of the figures, every other one comes, and the edges come often.
     #[test]
@@ -397,6 +440,30 @@ mod tests {
             assert_eq!(plain.inputs.idle, 0);
             (plain.inputs.idle, plain.record) = (with.inputs.idle, with.record);
             assert_eq!(with, plain);
+        }
+    }
+
+    /// Logs come without, with few and with many free entries, empty and used beyond their end; but
+    /// for the log it is the call without one.
+    #[test]
+    fn logs_come_as_they_should() {
+        let calls = (0..2000).map(|index| logged_call(&mut Random::new(1, index)));
+        let logs: Vec<_> = calls.map(|call| call.bus_log).collect();
+        let count = |wanted: &dyn Fn(usize, usize) -> bool| {
+            let lent = logs.iter().flatten().map(|log| (log.entries.len(), log.used));
+            lent.filter(|(length, used)| wanted(*length, *used)).count()
+        };
+        assert!((700..900).contains(&logs.iter().filter(|log| log.is_none()).count()));
+        assert!(count(&|length, _| length == 0) > 40);
+        assert!(count(&|length, used| used > length) > 40);
+        assert!(count(&|_, used| used > usize::MAX - 10) > 10);
+        for free in 0..=20 {
+            assert!(count(&|length, used| used <= length && length - used == free) > 3);
+        }
+        for index in 0..300 {
+            let mut with = logged_call(&mut Random::new(1, index));
+            with.bus_log = None;
+            assert_eq!(with, idle_call(&mut Random::new(1, index)));
         }
     }
 }

@@ -1,9 +1,9 @@
-//! The list that the port's program `replay` holds (`../crates/replay/data`), through the port's two
-//! libraries: a call through `lh5801_call` with the idle figure 0, a file that is turned down through
-//! `probe_report`.
+//! The list that the port's program `replay` holds (`../crates/replay/data`), through the port's
+//! two libraries: a call through `lh5801_call` with the idle figure 0 and the item's log or none, a
+//! file that is turned down through `probe_report`.
 //!
-//! Each page, the words, each file and the line's buffer are blocks of the heap that are exactly as
-//! long as they have to be: valgrind tells an access past their ends (`../memcheck`).
+//! Each page, the words, each file, the line's buffer and each log's list are blocks of the heap that
+//! are exactly as long as they have to be: valgrind tells an access past their ends (`../memcheck`).
 
 #![forbid(unsafe_code)]
 
@@ -12,85 +12,18 @@ use std::path::Path;
 
 use crate::call::{Call, Side};
 use crate::campaign;
+use crate::item::{sums, Item, Rest};
 use crate::lines::Report;
-use crate::list::Sparse;
 use crate::port::Port;
 use crate::progress::Progress;
 
-/// An item of the list; the head of `../crates/replay/src/main.rt` has its form.
-struct Item<'a> {
-    file: &'a [u8],
-    /// With its newline.
-    line: &'a [u8],
-    lengths: [usize; 2],
-    fill: (u8, u8),
-    /// For each byte that is set after the fill rule: its offset in two bytes, its page, its value.
-    set: &'a [u8],
-    /// Over both pages after the call.
-    sums: [u64; 2],
-}
-
-/// The part of a list that is not read yet.
-struct Rest<'a>(&'a [u8]);
-
-impl<'a> Rest<'a> {
-    fn take(&mut self, count: usize) -> Result<&'a [u8], String> {
-        let (taken, rest) = self.0.split_at_checked(count).ok_or("the list is cut off")?;
-        self.0 = rest;
-        Ok(taken)
-    }
-
-    /// A number of so many bytes, the lowest first.
-    fn number(&mut self, count: usize) -> Result<u64, String> {
-        let bytes = self.take(count)?;
-        Ok(bytes.iter().rev().fold(0, |value, byte| value << 8 | u64::from(*byte)))
-    }
-
-    fn item(&mut self) -> Result<Item<'a>, String> {
-        let file = self.number(2)? as usize;
-        let lengths = [self.number(4)? as usize, self.number(4)? as usize];
-        let line = self.number(1)? as usize;
-        let fill = (self.number(1)? as u8, self.number(1)? as u8);
-        let set = 4 * self.number(1)? as usize;
-        Ok(Item {
-            file: self.take(file)?,
-            line: self.take(line)?,
-            lengths,
-            fill,
-            set: self.take(set)?,
-            sums: [self.number(8)?, self.number(8)?],
-        })
-    }
-}
-
-impl Item<'_> {
-    /// The file's call on the item's pages: the fill rule, then the file's bytes at their starts,
-    /// then the bytes that are set.
-    fn call(&self, file: Call) -> Result<Call, String> {
-        let [page0, page1] = file.pages;
-        let mut set = vec![(0, page0), (0x1_0000, page1)];
-        set.extend(self.set.chunks_exact(4).map(|four| {
-            let [low, high, page, value] = [four[0], four[1], four[2], four[3]];
-            (u32::from_le_bytes([low, high, page, 0]), vec![value])
-        }));
-        let Call { record, inputs, limit, .. } = file;
-        let (keyboard, lengths, fill) = (inputs.keyboard, self.lengths, self.fill);
-        Sparse { record, keyboard, limit, lengths, fill, set }.call()
-    }
-}
-
-/// Two sums modulo 2^64: each byte is added to the first, and then the first to the second.
-fn sums(pages: &[Vec<u8>; 2]) -> [u64; 2] {
-    pages.iter().flatten().fold([0u64; 2], |[first, second], byte| {
-        let first = first.wrapping_add((*byte).into());
-        [first, second.wrapping_add(first)]
-    })
-}
-
 /// What the items of a list have in them.
 #[derive(Default)]
-struct Tally {
+pub struct Tally {
     calls: u64,
+    /// Calls with a log, and those of them that end with 11.
+    logged: u64,
+    full: u64,
     /// Files that are turned down: nothing is run.
     refused: u64,
     steps: u64,
@@ -101,31 +34,38 @@ struct Tally {
 }
 
 impl Tally {
-    /// Replays an item; true where the port's answer is the list's.
-    fn replay(&mut self, item: &Item, report: Report) -> Result<bool, String> {
+    /// Replays an item; true where the side's answer is the list's.
+    fn replay(&mut self, item: &Item, side: &mut dyn Side, report: Report) -> Result<bool, String> {
         // A block that ends where the file ends.
-        let file = item.file.to_vec().into_boxed_slice();
+        let file = item.file.clone().into_boxed_slice();
         let Ok(read) = campaign::read(&file) else {
             self.refused += 1;
             return Ok(report(&file)? == item.line);
         };
         let call = item.call(read)?;
+        self.add(&call);
+        let answer = side.call(&call);
+        self.full += u64::from(answer.number == 11);
+        self.steps += answer.steps;
+        self.most_steps = self.most_steps.max(answer.steps);
+        let line = format!("{}\n", answer.line()).into_bytes();
+        Ok(answer.failure.is_none() && line == item.line && sums(&answer) == item.sums)
+    }
+
+    /// A call's log and pages.
+    fn add(&mut self, call: &Call) {
+        self.calls += 1;
+        self.logged += u64::from(call.bus_log.is_some());
         for page in &call.pages {
             for (count, length) in self.pages.iter_mut().zip([0, 65_536, 65_537]) {
                 *count += u64::from(page.len() == length);
             }
         }
-        let answer = Port.call(&call);
-        self.calls += 1;
-        self.steps += answer.steps;
-        self.most_steps = self.most_steps.max(answer.steps);
-        let line = format!("{}\n", answer.line()).into_bytes();
-        Ok(answer.failure.is_none() && line == item.line && sums(&answer.pages) == item.sums)
     }
 
     /// Prints what there was; true where nothing differs.
-    fn print(&self) -> bool {
-        let Tally { calls, refused, steps, most_steps, pages, differing } = self;
+    pub fn print(&self) -> bool {
+        let Tally { calls, logged, full, refused, steps, most_steps, pages, differing } = self;
         for item in differing {
             println!("item {item} differs");
         }
@@ -133,7 +73,8 @@ impl Tally {
         println!(
             "{calls} calls through lh5801_call: {steps} steps, at most {most_steps} in a call;"
         );
-        println!("  {empty} pages empty, {greatest} of 65,536 bytes, {above} of 65,537");
+        println!("  {empty} pages empty, {greatest} of 65,536 bytes, {above} of 65,537;");
+        println!("  {logged} with a log, {full} of them end with 11");
         println!("{refused} files turned down through probe_report");
         println!("{} items, {} differences", calls + refused, differing.len());
         differing.is_empty()
@@ -141,13 +82,18 @@ impl Tally {
 }
 
 /// Replays one file of the list.
-fn replay_file(bytes: &[u8], report: Report, tally: &mut Tally) -> Result<(), String> {
+pub fn replay_file(
+    bytes: &[u8],
+    side: &mut dyn Side,
+    report: Report,
+    tally: &mut Tally,
+) -> Result<(), String> {
     let mut progress = Progress::new("byte", bytes.len() as u64);
     let mut rest = Rest(bytes);
     while !rest.0.is_empty() {
         let number = tally.calls + tally.refused + 1;
         let item = rest.item()?;
-        if !tally.replay(&item, report)? {
+        if !tally.replay(&item, side, report)? {
             tally.differing.push(number);
         }
         progress.show((bytes.len() - rest.0.len()) as u64);
@@ -163,7 +109,7 @@ pub fn run(folder: &Path, report: Report) -> Result<bool, String> {
     for name in names.take_while(|name| name.exists()) {
         let failed = |message: String| format!("{}: {message}", name.display());
         let bytes = fs::read(&name).map_err(|error| failed(error.to_string()))?;
-        replay_file(&bytes, report, &mut tally).map_err(failed)?;
+        replay_file(&bytes, &mut Port, report, &mut tally).map_err(failed)?;
     }
     if tally.calls + tally.refused == 0 {
         return Err(format!("{}: there is no list answers0.bin", folder.display()));

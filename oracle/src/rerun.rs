@@ -1,12 +1,15 @@
 //! Demand 3 by running: a run through the port, cut into lists of calls in two ways, on pages that
 //! differ wherever the run does not read a byte before it has stored a write there.
 //!
-//! Which bytes are read first, and what is written, comes from the original's log.
+//! Which bytes are read first, and what is written, comes from the original's log. In half of the
+//! runs both sides are lent a bus log, with equally many free entries and otherwise different.
 
 #![forbid(unsafe_code)]
 
-use crate::call::{Access, Call, Log, Record, Side, GREATEST_LIMIT, GREATEST_TM};
-use crate::compare::{self, slices};
+use crate::call::{
+    Access, Answer, BusLog, Call, Log, Record, Side, GREATEST_LIMIT, GREATEST_TM, MOST_ACCESSES,
+};
+use crate::compare::{self, ends_in_words, ordered_original, slices};
 use crate::opcodes::{table, Kind, Place};
 use crate::original::Original;
 use crate::port;
@@ -30,6 +33,8 @@ struct Course {
     first: [Vec<First>; 2],
     /// The stored writes of completed steps, in order: page, offset, byte.
     writes: Vec<(usize, usize, u8)>,
+    /// The entries that the bus log gains, where one is lent.
+    entries: Vec<u32>,
     /// Reads of a byte that was written before it was ever read, and those of them inside a step.
     later_reads: u64,
     inside: u64,
@@ -40,7 +45,8 @@ struct Course {
 impl Course {
     /// The bytes of a lent page that an access touches: none past the page's end.
     fn place(&self, access: &Access) -> Option<(usize, usize)> {
-        let (page, offset) = ((access.address >> 16) as usize, (access.address & 0xFFFF) as usize);
+        let address = access.address();
+        let (page, offset) = ((address >> 16) as usize, (address & 0xFFFF) as usize);
         (offset < self.first[page].len()).then_some((page, offset))
     }
 
@@ -56,7 +62,7 @@ impl Course {
         }
         for write in log.writes() {
             if let Some((page, offset)) = self.place(write) {
-                self.writes.push((page, offset, write.byte));
+                self.writes.push((page, offset, write.byte()));
             }
         }
     }
@@ -92,46 +98,74 @@ impl Course {
         }
         pages
     }
+
+    /// This log with the entries appended.
+    fn appended(&self, given: &BusLog) -> BusLog {
+        let mut log = given.clone();
+        for (place, entry) in log.entries.iter_mut().skip(given.used).zip(&self.entries) {
+            *place = *entry;
+        }
+        log.used += self.entries.len();
+        log
+    }
+
+    /// The end of one more call of the list.
+    fn end_call(&mut self, answer: &Answer) {
+        let Returned { steps, states, .. } = self.returned;
+        let (steps, states) = (steps + answer.steps, states + answer.states);
+        self.returned = Returned { number: answer.number, byte: answer.byte, steps, states };
+        self.record = answer.record;
+        self.waits += answer.waits;
+        if let Some(log) = &answer.log {
+            self.add(log);
+        }
+    }
 }
 
-/// The original over a list of calls.
+/// The original over a list of calls, which hand on the bus log. Its vector reads are put in
+/// document 01's order where there is one.
 fn course(call: &Call, limits: &[u32]) -> Result<Course, String> {
     let first = [0, 1].map(|page: usize| vec![First::None; call.pages[page].len()]);
-    let (returned, record, writes) = (Returned::default(), call.record, vec![]);
+    let (returned, record, writes, entries) = (Returned::default(), call.record, vec![], vec![]);
     let mut course =
-        Course { returned, record, first, writes, later_reads: 0, inside: 0, waits: 0 };
+        Course { returned, record, first, writes, entries, later_reads: 0, inside: 0, waits: 0 };
     let mut next = call.clone();
     for limit in limits {
         next.limit = *limit;
-        let answer = Original.call(&next);
+        let answer = match next.bus_log {
+            Some(_) => ordered_original(&next),
+            None => Original.call(&next),
+        };
         if let Some(message) = answer.failure {
             return Err(format!("the original failed: {message}"));
         }
-        let Returned { steps, states, .. } = course.returned;
-        let (steps, states) = (steps + answer.steps, states + answer.states);
-        course.returned = Returned { number: answer.number, byte: answer.byte, steps, states };
-        course.record = answer.record;
-        course.waits += answer.waits;
-        course.add(&answer.log.unwrap_or_default());
-        (next.record, next.pages) = (answer.record, answer.pages);
+        course.end_call(&answer);
+        (next.record, next.pages, next.bus_log) = (answer.record, answer.pages, answer.bus_log);
+    }
+    if let (Some(given), Some(log)) = (&call.bus_log, &next.bus_log) {
+        let used = log.entries.iter().take(log.used).skip(given.used);
+        course.entries = used.copied().collect();
     }
     Ok(course)
 }
 
+/// One of the two sides: its pages, its bus log and its list of limits.
+struct Lane<'a> {
+    pages: &'a [Vec<u8>; 2],
+    bus_log: Option<&'a BusLog>,
+    limits: &'a [u32],
+}
+
 /// The port over a list of calls: its answers must sum up to the course. All calls have the call's
-/// idle figure, on both sides: only then are two runs comparable.
-fn follow(
-    course: &Course,
-    call: &Call,
-    pages: &[Vec<u8>; 2],
-    limits: &[u32],
-) -> Result<(), String> {
-    let mut after = pages.clone();
+/// idle figure, on both sides: only then are two runs comparable. The used count is handed on.
+fn follow(course: &Course, call: &Call, lane: &Lane) -> Result<(), String> {
+    let mut after = lane.pages.clone();
+    let mut log = lane.bus_log.cloned();
     let (mut steps, mut states) = (0, 0);
     let mut last = None;
     let mut record = call.record;
-    for limit in limits {
-        let answer = port::call(&record, call.inputs, *limit, &mut after);
+    for limit in lane.limits {
+        let answer = port::call(&record, call.inputs, *limit, &mut after, log.as_mut());
         if let Some(message) = &answer.failure {
             return Err(format!("failure: {message}"));
         }
@@ -142,10 +176,12 @@ fn follow(
     }
     let mut sum = last.ok_or("an empty list")?;
     (sum.steps, sum.states) = (steps, states);
-    let expected = course.stored(pages);
-    let returned = compare::returned_difference(&course.returned, &course.record, &sum);
-    let pages = || compare::pages_difference(slices(&expected), slices(&after));
-    returned.or_else(pages).map_or(Ok(()), Err)
+    let expected = course.stored(lane.pages);
+    let appended = lane.bus_log.map(|log| course.appended(log));
+    compare::returned_difference(&course.returned, &course.record, &sum)
+        .or_else(|| compare::pages_difference(slices(&expected), slices(&after)))
+        .or_else(|| compare::bus_log_difference(appended.as_ref(), log.as_ref()))
+        .map_or(Ok(()), Err)
 }
 
 /// Another value for every byte that is not read first.
@@ -186,7 +222,7 @@ fn cut(random: &mut Random, total: u32) -> Vec<u32> {
 struct Counts {
     calls: u64,
     steps: u64,
-    stops: [u64; 8],
+    stops: [u64; 12],
     above_one_call: u64,
     after_stop: u64,
     bytes: u64,
@@ -195,10 +231,18 @@ struct Counts {
     inside: u64,
     waits: u64,
     waiting_runs: u64,
+    logged_runs: u64,
+    logged_steps: u64,
+    entries: u64,
 }
 
 impl Counts {
-    fn add(&mut self, course: &Course, lists: [&[u32]; 2], total: u32) {
+    fn add(&mut self, course: &Course, lists: [&[u32]; 2], total: u32, logged: bool) {
+        if logged {
+            self.logged_runs += 1;
+            self.logged_steps += course.returned.steps;
+            self.entries += course.entries.len() as u64;
+        }
         self.calls += lists.iter().map(|list| list.len() as u64).sum::<u64>();
         self.steps += course.returned.steps;
         self.stops[usize::from(course.returned.number)] += 1;
@@ -217,8 +261,7 @@ impl Counts {
     }
 
     fn print(&self) {
-        let stops: Vec<_> = [0, 5, 6, 7].map(|i| format!("{i}: {}", self.stops[i])).into();
-        println!("final stops: {}", stops.join(" "));
+        println!("final stops:{}", ends_in_words(&self.stops));
         println!(
             "runs with calls after a stop: {}; of more than 1,000,000 steps: {}",
             self.after_stop, self.above_one_call
@@ -232,18 +275,53 @@ impl Counts {
             self.later_reads, self.inside
         );
         println!("waiting steps: {} in {} runs", self.waits, self.waiting_runs);
+        println!(
+            "runs with a log: {}, of {} steps and {} entries",
+            self.logged_runs, self.logged_steps, self.entries
+        );
     }
+}
+
+/// A log with as many free entries as this one; length, used count and contents are others. With no
+/// free entry the used count may be beyond the list.
+fn other_log(random: &mut Random, log: &BusLog) -> BusLog {
+    let (free, used) = (log.free(), random.below(40) as usize);
+    match free {
+        0 if random.chance(50) => random::garbage(random, used, used + 1),
+        _ => random::garbage(random, used + free, used),
+    }
+}
+
+/// A log for a run of this many steps: mostly enough for it, sometimes few free entries or none.
+fn first_log(random: &mut Random, steps: u32) -> BusLog {
+    let used = random.below(40) as usize;
+    let enough = MOST_ACCESSES as u64 * u64::from(steps.min(30_000) + 1);
+    let free = match random.below(10) {
+        0 => random.below(8),
+        1 | 2 => random.below(enough),
+        _ => enough,
+    };
+    random::garbage(random, used + free as usize, used)
+}
+
+/// The two lists of limits of a case, and its second log.
+fn second(call: &Call, random: &mut Random) -> ([Vec<u32>; 2], Option<BusLog>) {
+    let lists = [cut(random, call.limit), cut(random, call.limit)];
+    let bus_log = call.bus_log.as_ref().map(|log| other_log(random, log));
+    (lists, bus_log)
 }
 
 /// Runs one case; tells the first difference. Cuts and values depend on the seed and index only.
 fn check(call: &Call, seed: u64, index: u64, counts: &mut Counts) -> Result<(), String> {
     let mut random = Random::new(seed ^ 0x5EED, index);
-    let lists = [cut(&mut random, call.limit), cut(&mut random, call.limit)];
-    let course = course(call, &lists[0])?;
+    let ([first, second], bus_log) = second(call, &mut random);
+    let course = course(call, &first)?;
     let other = other_pages(&mut random, &course, &call.pages);
-    follow(&course, call, &call.pages, &lists[0]).map_err(|how| format!("given pages: {how}"))?;
-    follow(&course, call, &other, &lists[1]).map_err(|how| format!("other pages: {how}"))?;
-    counts.add(&course, [&lists[0], &lists[1]], call.limit);
+    let given = Lane { pages: &call.pages, bus_log: call.bus_log.as_ref(), limits: &first };
+    follow(&course, call, &given).map_err(|how| format!("given pages: {how}"))?;
+    let other = Lane { pages: &other, bus_log: bus_log.as_ref(), limits: &second };
+    follow(&course, call, &other).map_err(|how| format!("other pages: {how}"))?;
+    counts.add(&course, [&first, &second], call.limit, call.bus_log.is_some());
     Ok(())
 }
 
@@ -267,7 +345,11 @@ fn case(random: &mut Random) -> Call {
         4..=23 => near_stores(random, &mut call),
         _ => {}
     }
-    random::with_idle(random, call)
+    let mut call = random::with_idle(random, call);
+    if random.chance(50) {
+        call.bus_log = Some(first_log(random, call.limit));
+    }
+    call
 }
 
 /// Code that stores and loads among a few bytes of both pages, so that many are written first.
@@ -333,10 +415,13 @@ fn report(call: Call, seed: u64, index: u64) {
     let mut fails = |call: &Call| call.limit > 0 && check(call, seed, index, &mut unused).is_err();
     let smallest = shrink::shrink(call, &mut fails);
     let mut random = Random::new(seed ^ 0x5EED, index);
-    let lists = [cut(&mut random, smallest.limit), cut(&mut random, smallest.limit)];
+    let (lists, bus_log) = second(&smallest, &mut random);
     println!("smallest failing input found:");
     print!("{}", shrink::describe(&smallest));
     println!("limits on the given pages {:?}, on the other pages {:?}", lists[0], lists[1]);
+    if let Some(log) = bus_log {
+        println!("other log: length {}, used {}", log.entries.len(), log.used);
+    }
     let how = check(&smallest, seed, index, &mut Counts::default());
     println!("first difference: {}", how.err().unwrap_or_default());
 }

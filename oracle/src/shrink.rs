@@ -1,10 +1,11 @@
-//! Makes a failing call smaller: fewer steps first, then memory, then registers and flags.
+//! Makes a failing call smaller: fewer steps first, then the log and memory, then registers and
+//! flags.
 
 #![forbid(unsafe_code)]
 
 use std::fmt::Write;
 
-use crate::call::{Call, Inputs, Record, Side};
+use crate::call::{BusLog, Call, Inputs, Record, Side};
 use crate::original::Original;
 
 type Fails<'a> = &'a mut dyn FnMut(&Call) -> bool;
@@ -15,6 +16,7 @@ pub fn shrink(call: Call, fails: Fails) -> Call {
     loop {
         let before = best.clone();
         shrink_steps(&mut best, fails);
+        shrink_log(&mut best, fails);
         move_down(&mut best, fails);
         shrink_pages(&mut best, fails);
         shrink_record(&mut best, fails);
@@ -34,8 +36,8 @@ fn keep(best: &mut Call, candidate: Call, fails: Fails) -> bool {
     better
 }
 
-/// A smaller limit, or the same steps begun later: from the record and pages that the original has
-/// after some steps.
+/// A smaller limit, or the same steps begun later: from the record, pages and log that the original
+/// has after some steps.
 fn shrink_steps(best: &mut Call, fails: Fails) {
     while best.limit > 1 {
         let limit = best.limit;
@@ -62,8 +64,47 @@ fn begin_later(best: &mut Call, steps: u32, fails: Fails) -> bool {
         pages: head.pages,
         limit: best.limit - steps,
         inputs: best.inputs,
+        bus_log: head.bus_log,
     };
     head.number == 0 && keep(best, candidate, fails)
+}
+
+/// No log at all, or else a smaller one.
+fn shrink_log(best: &mut Call, fails: Fails) {
+    let without = Call { bus_log: None, ..best.clone() };
+    keep(best, without, fails);
+    while let Some(log) = &best.bus_log {
+        let smaller = smaller_logs(log).into_iter();
+        let candidates = smaller.map(|log| Call { bus_log: Some(log), ..best.clone() });
+        let candidates = candidates.collect::<Vec<_>>();
+        if !candidates.into_iter().any(|candidate| keep(best, candidate, fails)) {
+            return;
+        }
+    }
+}
+
+/// Logs with a shorter list, a smaller used count or zeros in the list, and otherwise like this
+/// one.
+fn smaller_logs(log: &BusLog) -> Vec<BusLog> {
+    let (length, used) = (log.entries.len(), log.used);
+    let mut logs = vec![];
+    for taken in [used, used / 2, 1].into_iter().filter(|taken| (1..=length).contains(taken)) {
+        if used <= length {
+            logs.push(BusLog { entries: log.entries[taken..].to_vec(), used: used - taken });
+        }
+    }
+    let first = used.min(length);
+    let lengths = [0, first, first.saturating_add(7), length / 2, length.saturating_sub(1)];
+    for shorter in lengths.into_iter().filter(|shorter| *shorter < length) {
+        logs.push(BusLog { entries: log.entries[..shorter].to_vec(), used });
+    }
+    for less in [0, length + 1, used / 2].into_iter().filter(|less| *less < used) {
+        logs.push(BusLog { entries: log.entries.clone(), used: less });
+    }
+    if log.entries.iter().any(|entry| *entry != 0) {
+        logs.push(BusLog { entries: vec![0; length], used });
+    }
+    logs
 }
 
 fn shrink_pages(best: &mut Call, fails: Fails) {
@@ -209,8 +250,8 @@ fn move_down(best: &mut Call, fails: Fails) {
     }
 }
 
-/// A call in words: record, keyboard, idle figure, limit and the bytes of the pages that are not
-/// zero.
+/// A call in words: record, keyboard, idle figure, limit, the bytes of the pages that are not zero,
+/// and the log with its first entries that are not zero.
 pub fn describe(call: &Call) -> String {
     let mut text = format!("record: {}\n", call.record);
     let Inputs { keyboard, idle } = call.inputs;
@@ -223,7 +264,17 @@ pub fn describe(call: &Call) -> String {
         }
         text.push('\n');
     }
-    text
+    text + &describe_log(call.bus_log.as_ref())
+}
+
+fn describe_log(log: Option<&BusLog>) -> String {
+    let Some(BusLog { entries, used }) = log else { return "no log\n".to_string() };
+    let mut text = format!("log: length {}, used {used}", entries.len());
+    let set = entries.iter().enumerate().filter(|(_, entry)| **entry != 0);
+    for (place, entry) in set.take(40) {
+        let _ = write!(text, " {place}={entry:08X}");
+    }
+    text + "\n"
 }
 
 #[cfg(test)]

@@ -6,6 +6,7 @@
 
 #![forbid(unsafe_code)]
 
+use std::fmt;
 use std::fs;
 use std::panic::{catch_unwind, AssertUnwindSafe};
 use std::path::{Path, PathBuf};
@@ -13,9 +14,10 @@ use std::time::Instant;
 
 use bare::{Pc1500, Returned};
 
-use crate::call::{Answer, Call, Inputs, Record};
+use crate::call::{Answer, BusLog, Call, Inputs, Record};
 use crate::campaign;
-use crate::port::{self, Words};
+use crate::port::{self, Lent, Words};
+use crate::speed_log;
 
 pub struct Settings {
     pub rounds: u64,
@@ -99,7 +101,8 @@ impl Sides {
                 ORIGINAL => number = self.machine.original_run(work.cut, &mut ()).number.into(),
                 _ => {
                     let [page0, page1] = &mut self.pages;
-                    port::run(&mut self.words, page0, page1, work.call.inputs, work.cut);
+                    let (inputs, lent) = (work.call.inputs, Lent::default());
+                    port::run(&mut self.words, page0, page1, inputs, work.cut, lent);
                     number = self.words[12];
                 }
             }
@@ -142,13 +145,20 @@ impl Sides {
 }
 
 /// The middle, the least and the greatest of some costs in nanoseconds.
-struct Spread {
+pub struct Spread {
     median: f64,
     least: f64,
     greatest: f64,
 }
 
-fn spread(mut costs: Vec<f64>) -> Spread {
+impl fmt::Display for Spread {
+    fn fmt(&self, f: &mut fmt::Formatter<'_>) -> fmt::Result {
+        let Spread { median, least, greatest } = self;
+        f.pad(&format!("{median:.2} ({least:.2} to {greatest:.2})"))
+    }
+}
+
+pub fn spread(mut costs: Vec<f64>) -> Spread {
     costs.sort_by(f64::total_cmp);
     let last = costs.len() - 1;
     Spread { median: costs[last / 2], least: costs[0], greatest: costs[last] }
@@ -181,17 +191,14 @@ fn print_head(title: &str, unit: &str) {
 }
 
 /// The ratio of the medians, and of the least costs, which other load on the machine moves less.
-fn ratio(left: &Spread, right: &Spread) -> String {
+pub fn ratio(left: &Spread, right: &Spread) -> String {
     format!("{:.2} ({:.2})", left.median / right.median, left.least / right.least)
 }
 
 /// Measures, prints, and tells how many times as fast as the bare original the port is.
 fn print_row(work: &Work, rounds: u64) -> Result<f64, String> {
     let costs = measure(work, rounds)?;
-    let [bare, original, port] = costs.each_ref().map(|cost| {
-        let range = format!("({:.2} to {:.2})", cost.least, cost.greatest);
-        format!("{:.2} {range}", cost.median)
-    });
+    let [bare, original, port] = &costs;
     println!(
         "{:<27} {bare:>28} {original:>28} {port:>28} {:>13} {:>13}",
         work.title,
@@ -233,7 +240,8 @@ fn pages_title(lengths: [usize; 2]) -> String {
     format!("pages of {length0} and {length1}{off}")
 }
 
-/// Measures and prints everything, and tells the least ratio of the whole runs to the bare original.
+/// Measures and prints everything, and tells the least ratio of the whole runs to the bare
+/// original.
 pub fn run(settings: &Settings) -> Result<f64, String> {
     let rounds = settings.rounds;
     let programs = programs(&settings.bench)?;
@@ -270,6 +278,7 @@ pub fn run(settings: &Settings) -> Result<f64, String> {
     for idle in [2, 255] {
         print_row(&Work::steps(&format!("idle figure {idle}"), &parked(idle), 1_000_000), rounds)?;
     }
+    speed_log::run(&programs, rounds)?;
     Ok(least)
 }
 
@@ -279,11 +288,14 @@ fn parked(idle: u8) -> Call {
     Call { record, inputs: Inputs { keyboard: 0, idle }, ..Call::default() }
 }
 
-/// Runs a campaign file exactly once, one of the three ways, and tells document 01's line.
-pub fn once(way: &str, file: &Path) -> Result<String, String> {
+/// Runs a campaign file exactly once, one of the three ways, and tells document 01's line. The port
+/// may be lent a log, with room for every step.
+pub fn once(way: &str, file: &Path, is_logged: bool) -> Result<String, String> {
     let mut call = load(file)?;
     if way == WAYS[PORT] {
-        let answer = port::call(&call.record, call.inputs, call.limit, &mut call.pages);
+        let mut log = is_logged.then(|| BusLog::for_steps(call.limit));
+        let Call { record, inputs, limit, pages, .. } = &mut call;
+        let answer = port::call(record, *inputs, *limit, pages, log.as_mut());
         return answer.failure.clone().map_or_else(|| Ok(answer.line()), Err);
     }
     let mut machine = Pc1500::new(&call.record, call.inputs, call.pages);

@@ -1,4 +1,5 @@
-//! The symbols of the port's archive: the exported entry, and no other text of its own.
+//! The symbols of the port's archive: the exported entry, and no other function but those that a log
+//! needs, which are kept out of the loops (docs/DECISIONS.md, F-2).
 
 #![forbid(unsafe_code)]
 
@@ -25,7 +26,20 @@ fn is_text(kind: char) -> bool {
     "TtWwi".contains(kind)
 }
 
-/// Checks the archive; true where the entry is its only function.
+/// A function that computes a log's entries, not exported: of the crate `bus`, or the run's own look
+/// at the log before a step.
+fn is_of_log(kind: char, name: &str) -> bool {
+    kind == 't' && (name.contains("bus") || name.contains("note_coming"))
+}
+
+/// Is the entry exported, and is every other function the log's?
+fn entry_alone(symbols: &[(char, String)]) -> bool {
+    let other =
+        |(kind, name): &(char, String)| is_text(*kind) && name != ENTRY && !is_of_log(*kind, name);
+    symbols.contains(&('T', ENTRY.to_string())) && !symbols.iter().any(other)
+}
+
+/// Checks the archive; true where the entry is its only function besides those of the log.
 pub fn run(archive: &Path) -> Result<bool, String> {
     if !archive.is_file() {
         return Err(format!("{} is missing: run `rt staticlib lh5801` first", archive.display()));
@@ -45,15 +59,15 @@ pub fn run(archive: &Path) -> Result<bool, String> {
     println!("functions: {}", text.join(" "));
     println!("wanted from outside: {}", of(&|kind| kind == 'U').join(" "));
     println!("other symbols: {}", of(&|kind| kind != 'U' && !is_text(kind)).join(" "));
-    let exported = symbols.contains(&('T', ENTRY.to_string()));
-    let alone = exported && text.len() == 1;
-    println!("{ENTRY} is {} function", if alone { "the only" } else { "NOT the only" });
+    let alone = entry_alone(&symbols);
+    let only = if alone { "the only" } else { "NOT the only" };
+    println!("{ENTRY} is {only} function besides those of the log");
     Ok(alone)
 }
 
 #[cfg(test)]
 mod tests {
-    use super::symbols;
+    use super::{entry_alone, symbols};
 
     #[test]
     fn a_listing_is_read() {
@@ -61,5 +75,15 @@ mod tests {
         let expected = [('r', ".L"), ('T', "lh5801_call"), ('U', "memcpy")];
         let expected = expected.map(|(kind, name)| (kind, name.to_string()));
         assert_eq!(symbols(listing), expected);
+    }
+
+    #[test]
+    fn another_function_is_found() {
+        let with = |line: &str| entry_alone(&symbols(&format!("0000 T lh5801_call\n{line}\n")));
+        assert!(with("0000 t bus::note_at"));
+        assert!(with("0000 t run::note_coming"));
+        assert!(!with("0000 t run::steps_of"));
+        assert!(!with("0000 T bus::note_at"));
+        assert!(!entry_alone(&symbols("0000 t lh5801_call\n")));
     }
 }

@@ -82,7 +82,7 @@ states-fit i n fit = (
 )
 
 -- a table of 16 rows lists nothing from 256 on
-past-rows : (table : List (List Decoded)) → length table ≡ 16 → (b : ℕ) → 256 ≤ b → getD (getD table (b / 16) []) (b % 16) Unlisted ≡ Unlisted
+pub past-rows : (table : List (List Decoded)) → length table ≡ 16 → (b : ℕ) → 256 ≤ b → getD (getD table (b / 16) []) (b % 16) Unlisted ≡ Unlisted
 past-rows table l b h = rw (List·getD-eq-default table [] {n = b / 16} (omega (arith, l))) refl
 
 -- document 01: each executed instruction adds 4 to 23 states

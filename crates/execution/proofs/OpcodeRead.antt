@@ -11,15 +11,10 @@ use Rattle.pages.specs.Stack.{up16, readopOf}
 use Rattle.pages.specs.Contract.{Does}
 use Rattle.pages.proofs.Exec.{bind-answer}
 use Rattle.pages.proofs.Does.{does-then, does-done, does-readop}
-use Rattle.execution.specs.declared.Fetched.{Fetched}
 use Rattle.execution.specs.Step.{fetched, decodedBy, fetchOf, decodedStepOf, instructionOf}
+use Rattle.execution.specs.Code.Shapes.{opcodeAt}
 
--- the opcode that the pages hold at p
-abbrev pub opcodeAt : Pages → ℕ → Fetched
-opcodeAt pages p =
-    cond (eqb (at pages p) 0xFD) (fetched true (at pages (up16 p)) (up16 (up16 p))) (fetched false (at pages p) (up16 p))
-
--- it is read from the pages, and they stay
+-- the opcode is read from the pages, and they stay
 pub fetch-does : (pages : Pages) (p : ℕ) → Does (fetchOf p) pages (opcodeAt pages p) pages
 unfolding fetchOf
 fetch-does pages p = does-then _ (does-readop p) (go (eqb (at pages p) 0xFD))

@@ -26,7 +26,8 @@ use Rattle.execution.specs.OpcodesFd.{decodedFd}
 use Rattle.execution.specs.Listed.{isListed, listedFirst}
 use Rattle.execution.specs.Step.{waiting, StepEnd, did, stopped, fetched, decodedBy, unlistedBy, decodedStepOf, reachedOf, haltedOf, stepOf}
 use Rattle.execution.specs.Conditions.{accepted, Halting, HaltedStop, Waits, Due, firstByte, secondByte, FirstUnlisted, SecondUnlisted, Completes, NoStop}
-use Rattle.execution.proofs.OpcodeRead.{opcodeAt, instruction-answer}
+use Rattle.execution.specs.Code.Shapes.{opcodeAt}
+use Rattle.execution.proofs.OpcodeRead.{instruction-answer}
 use Rattle.execution.proofs.StopsClean.{IsDid, IsActive, active-did, active-listed}
 use Rattle.execution.proofs.Choices.{none-left, none-right, cond-true, cond-false}
 use Rattle.execution.proofs.Tests.{reached-p, off-step, held-step, unheld, halting-step, accepted-step, halted-stops, halted-waits}

@@ -3,3 +3,4 @@ pub mod Chain
 pub mod Operands
 pub mod Due
 pub mod Outcomes
+pub mod Shapes

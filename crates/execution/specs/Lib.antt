@@ -7,6 +7,7 @@ pub mod Listed
 pub mod States
 pub mod Stops
 pub mod Step
+pub mod Completed
 pub mod Code
 pub mod Conditions
 pub mod Waiting

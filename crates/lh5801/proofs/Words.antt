@@ -28,7 +28,7 @@ taken-within words = (omega arith, (omega arith, (omega arith, (omega arith, (om
 pub words-within : (r : Answer) → AllWithin widths (recordNumbers (r .cpu)) → endByte (r .end) ≤ 255 → r .steps ≤ 2 ^ 32 - 1 → r .states ≤ 2 ^ 64 - 1
     → AllWithin wordWidths (wordsOf r)
 words-within r h byte steps states =
-    within-append widths (recordNumbers (r .cpu)) (7 ∷ 255 ∷ (2 ^ 32 - 1) ∷ (2 ^ 64 - 1) ∷ []) (endNumber (r .end) ∷ endByte (r .end) ∷ r .steps ∷ r .states ∷ []) refl h
+    within-append widths (recordNumbers (r .cpu)) (11 ∷ 255 ∷ (2 ^ 32 - 1) ∷ (2 ^ 64 - 1) ∷ []) (endNumber (r .end) ∷ endByte (r .end) ∷ r .steps ∷ r .states ∷ []) refl h
     (number-most (r .end), (byte, (steps, (states, tt))))
 
 taken-back : (r : Answer) → AllWithin wordWidths (wordsOf r) → takenOf (wordsOf r) ≡ recordNumbers (r .cpu)

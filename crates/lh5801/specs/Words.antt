@@ -1,14 +1,16 @@
 -- The sixteen words of the C entry: the record and the answer as numbers of 64 bits.
 use Prim.Native.Nat.{ℕ, _-_, _%_, _^_}
-use mathlib.Core.Bool.{cond}
+use mathlib.Core.Bool.{Bool, cond}
 use mathlib.Core.List.{List, [], _∷_, _++_}
 use mathlib.Core.Path.{_≡_}
 use lib.Dec.{ltb}
 use lib.ListN.{getD}
 use Rattle.arithmetic.specs.declared.record.Lh5801.{Lh5801}
 use Rattle.pages.specs.Pages.{Pages}
+use Rattle.run.specs.declared.Log.{Log}
 use Rattle.run.specs.declared.Answer.{Answer}
 use Rattle.run.specs.Acceptance.{endNumber, endByte}
+use Rattle.run.specs.BusLog.{appended, usedAfter}
 use Rattle.run.specs.Run.{CallResult}
 use Rattle.run.specs.RecordNumbers.{recordNumbers, recordOf, AllWithin, widths}
 
@@ -30,12 +32,18 @@ wordsOf r = recordNumbers (r .cpu) ++ (endNumber (r .end) ∷ endByte (r .end) �
 
 -- the greatest values of the words that come back
 abbrev pub wordWidths : List ℕ
-wordWidths = widths ++ (7 ∷ 255 ∷ (2 ^ 32 - 1) ∷ (2 ^ 64 - 1) ∷ [])
+wordWidths = widths ++ (11 ∷ 255 ∷ (2 ^ 32 - 1) ∷ (2 ^ 64 - 1) ∷ [])
 
--- what the entry leaves: the words and the pages of the definition's call. A call that is passed these words starts from the record that this
+-- the list is lent as a log, and so many of its entries are used; or it is not
+abbrev pub logWith : Bool → ℕ → Log
+logWith lent used = record { lent = lent; used = used }
+
+-- what the entry leaves: the words, the pages and the log of the definition's call. A call that is passed these words starts from the record that this
 -- one ended with
-pub record Left (o : CallResult) (words : List ℕ) (after : Pages) : Type 0 where
+pub record Left (o : CallResult) (log : Log) (before now : List ℕ) (used : ℕ) (words : List ℕ) (after : Pages) : Type 0 where
   pub words-are : words ≡ wordsOf (o .answer)
   pub within : AllWithin wordWidths words
   pub continues : cpuOf words ≡ o .answer .cpu
   pub pages : after ≡ o .pages
+  pub entries-are : now ≡ appended log before (o .bus)
+  pub used-are : used ≡ usedAfter log (o .bus)

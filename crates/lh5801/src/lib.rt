@@ -5,10 +5,12 @@ ghost use lib.Dec.{ltb};
 ghost use Rattle.pages.specs.Contract.{atEntry, atExit};
 ghost use Rattle.execution.specs.Inputs.{inputsOf};
 ghost use Rattle.run.specs.RecordNumbers.{AllWithin};
+ghost use Rattle.run.specs.BusLog.{freeIn};
 ghost use Rattle.run.specs.Run.{callOf, settings};
-ghost use Rattle.lh5801.specs.Words.{takenOf, cpuOf, wordsOf, wordWidths, Left};
+ghost use Rattle.lh5801.specs.Words.{takenOf, cpuOf, wordsOf, wordWidths, logWith, Left};
 use execution::Inputs;
 use run::Answer;
+use run::Log;
 use run::Settings;
 use run::record_numbers;
 
@@ -69,7 +71,8 @@ fn words_of(r: Answer) -> [u64; 16]
     ]
 }
 
-// The run call. In C: lh5801_call(words, page0, length0, page1, length1, limit, keyboard, idle).
+// The run call; the used count after it is returned. In C: lh5801_call(words, page0, length0, page1, length1, limit, keyboard, idle, logged, log,
+// log_length, log_used).
 #[no_mangle]
 pub extern "C" fn lh5801_call(
     words: &mut [u64; 16],
@@ -78,8 +81,11 @@ pub extern "C" fn lh5801_call(
     limit: u32,
     keyboard: u8,
     idle: u8,
-)
-    ensures { λ _. ⌜ Left (callOf (settings (inputsOf keyboard idle) limit) (cpuOf (now (words .entry))) (atEntry page0 page1)) (now (words .exit)) (atExit page0 page1) ⌝ }
+    logged: bool,
+    log: &mut [u32],
+    log_used: usize,
+) -> usize
+    ensures { λ r. ⌜ Left (callOf (settings (inputsOf keyboard idle) limit) (freeIn (logWith logged «log_used») (now (log .entry))) (cpuOf (now (words .entry))) (atEntry page0 page1)) (logWith logged «log_used») (now (log .entry)) (now (log .exit)) r (now (words .exit)) (atExit page0 page1) ⌝ }
 {
     let numbers = taken(words);
     let cpu = record_numbers::record_of(&numbers);
@@ -91,6 +97,12 @@ pub extern "C" fn lh5801_call(
         inputs: inputs,
         limit: limit,
     };
-    let answer = run::run(cpu, page0, page1, settings);
+    let lent = Log {
+        lent: logged,
+        used: log_used,
+    };
+    let r = run::run(cpu, page0, page1, log, lent, settings);
+    let answer = r.answer;
     *words = words_of(answer);
+    r.used
 }

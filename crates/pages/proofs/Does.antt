@@ -50,6 +50,11 @@ pub does-read : (a : ℕ) {b : ℕ} {m : Pages} → b ≡ at m a → Does (read 
 unfolding exec after read
 does-read a e = record { value = e; pages = refl }
 
+-- and back: what one read gave is the byte there
+pub read-value : (a : ℕ) {b : ℕ} {m n : Pages} → Does (read a) m b n → b ≡ at m a
+unfolding exec after read
+read-value a d = d .value
+
 pub does-write : (a v : ℕ) {m n : Pages} → n ≡ store m a v → Does (write a v) m tt n
 unfolding exec after write
 does-write a v e = record { value = refl; pages = sym e }

@@ -59,6 +59,10 @@ pub bind-pages : {A B : Type 0} (p : Prog A) (f : A → Prog B) (m : Pages)
     → exec (p >>= f) m .pages ≡ exec (f (exec p m .answer)) (exec p m .pages) .pages
 bind-pages p f m = ap (λ x. x .pages) (exec-bind p f m)
 
+pub bind-accesses : {A B : Type 0} (p : Prog A) (f : A → Prog B) (m : Pages)
+    → exec (p >>= f) m .accesses ≡ exec p m .accesses ++ exec (f (exec p m .answer)) (exec p m .pages) .accesses
+bind-accesses p f m = ap (λ x. x .accesses) (exec-bind p f m)
+
 -- a program keeps the lengths
 pub exec-long : {A : Type 0} (p : Prog A) (m : Pages) → SameLength m (exec p m .pages)
 unfolding exec after

@@ -125,6 +125,15 @@ pub at-page1 : (l0 l1 : List ℕ) (a : ℕ) → 0x10000 ≤ a → at (pages l0 l
 unfolding at
 at-page1 l0 l1 a h = rw (le-ltb a 0x10000 h)
 
+-- which writes are stored, by the page that they go to
+pub stored-page0 : (l0 l1 : List ℕ) (a : ℕ) → a < 0x10000 → stored (pages l0 l1) a ≡ ltb a (length l0)
+unfolding stored inside
+stored-page0 l0 l1 a h = rw (lt-ltb a 0x10000 h)
+
+pub stored-page1 : (l0 l1 : List ℕ) (a : ℕ) → 0x10000 ≤ a → stored (pages l0 l1) a ≡ ltb (a - 0x10000) (length l1)
+unfolding stored inside
+stored-page1 l0 l1 a h = rw (le-ltb a 0x10000 h)
+
 -- a write past the end of a list changes nothing
 set-kept : (l : List ℕ) (i v : ℕ) → cond (ltb i (length l)) (set l i v) l ≡ set l i v
 set-kept l i v = go (ltb i (length l)) refl

@@ -1,4 +1,4 @@
--- The sums over the first bytes of a page.
+-- The sums over the first bytes of a page, and over the entries of a list.
 use Prim.Native.Nat.{ℕ, _+_, _≤_, _<_}
 use native.Mathlib.Numerals.{add-one}
 use native.Mathlib.Omega.{arith}
@@ -8,15 +8,15 @@ use borrow.Author.Tests.{le-ltb}
 use lib.ListN.{length, take, getD}
 use lib.Seq.{take-suc}
 use Rattle.replay.specs.declared.Sums.{Sums}
-use Rattle.replay.specs.Numbers.{withByte, sumsOf, sumsPageOf}
+use Rattle.replay.specs.Numbers.{withNumber, sumsOf, sumsPageOf}
 
-last-byte : (l : List ℕ) (b : ℕ) (s : Sums) → sumsOf (l ++ (b ∷ [])) s ≡ withByte (sumsOf l s) b
+last-number : (l : List ℕ) (b : ℕ) (s : Sums) → sumsOf (l ++ (b ∷ [])) s ≡ withNumber (sumsOf l s) b
 unfolding sumsOf
-last-byte [] b s = refl
-last-byte (a ∷ l) b s = last-byte l b (withByte s a)
+last-number [] b s = refl
+last-number (a ∷ l) b s = last-number l b (withNumber s a)
 
-pub one-more : (l : List ℕ) (i : ℕ) (s : Sums) → i < length l → sumsOf (take (i + 1) l) s ≡ withByte (sumsOf (take i l) s) (getD l i 0)
-one-more l i s h = rw (add-one, take-suc l i 0 h) (last-byte (take i l) (getD l i 0) s)
+pub one-more : (l : List ℕ) (i : ℕ) (s : Sums) → i < length l → sumsOf (take (i + 1) l) s ≡ withNumber (sumsOf (take i l) s) (getD l i 0)
+one-more l i s h = rw (add-one, take-suc l i 0 h) (last-number (take i l) (getD l i 0) s)
 
 -- the sums over the start of a page of 65,537
 pub page-sums : (page start : List ℕ) (len : ℕ) (s : Sums) → len ≤ 65537 → take len page ≡ start → sumsPageOf page len s ≡ sumsOf start s

@@ -1,4 +1,4 @@
--- The numbers in the list of answers, and the sums over the pages.
+-- The numbers in the list of answers, and the sums over the pages and the entries.
 use Prim.Native.Nat.{ℕ, _+_, _*_, _%_, _^_}
 use mathlib.Core.Bool.{cond}
 use mathlib.Core.List.{List, [], _∷_}
@@ -19,19 +19,19 @@ fourOf bytes at = twoOf bytes at + 65536 * twoOf bytes (at + 2)
 unfoldable pub eightOf : List ℕ → ℕ → ℕ
 eightOf bytes at = fourOf bytes at + 4294967296 * fourOf bytes (at + 4)
 
--- the place after the item that begins here: 30 bytes of fixed fields, the campaign file, the line, and four bytes for each byte that is set
+-- the place after the item that begins here: 32 bytes of fixed fields, the campaign file, the line, and four bytes for each byte that is set
 unfoldable pub endOf : List ℕ → ℕ → ℕ
-endOf bytes at = at + 30 + twoOf bytes at + getD bytes (at + 10) 0 + 4 * getD bytes (at + 13) 0
+endOf bytes at = at + 32 + twoOf bytes at + getD bytes (at + 10) 0 + 4 * getD bytes (at + 13) 0
 
--- two sums with one byte more: it is added to the first, and then the first to the second, modulo 2^64
-abbrev pub withByte : Sums → ℕ → Sums
-withByte s byte =
-    record { first = (s .first + byte) % 2 ^ 64; second = (s .second + (s .first + byte) % 2 ^ 64) % 2 ^ 64 }
+-- two sums with one number more: it is added to the first, and then the first to the second, modulo 2^64
+unfoldable pub withNumber : Sums → ℕ → Sums
+withNumber s number =
+    record { first = (s .first + number) % 2 ^ 64; second = (s .second + (s .first + number) % 2 ^ 64) % 2 ^ 64 }
 
--- the sums go on over these bytes
+-- the sums go on over these numbers
 unfoldable pub sumsOf : List ℕ → Sums → Sums
 sumsOf [] s = s
-sumsOf (byte ∷ rest) s = sumsOf rest (withByte s byte)
+sumsOf (number ∷ rest) s = sumsOf rest (withNumber s number)
 
 abbrev pub noSums : Sums
 noSums = record { first = 0; second = 0 }
@@ -39,6 +39,11 @@ noSums = record { first = 0; second = 0 }
 -- the sums go on over the first bytes of a page of 65,537; where it has not so many, they are 0
 unfoldable pub sumsPageOf : List ℕ → ℕ → Sums → Sums
 sumsPageOf page len before = cond (ltb 65537 len) noSums (sumsOf (take len page) before)
+
+-- the sums over the starts of both pages, then over all entries of a list, then over a used count
+unfoldable pub sumsAfterOf : List ℕ → ℕ → List ℕ → ℕ → List ℕ → ℕ → Sums
+sumsAfterOf page0 len0 page1 len1 entries used =
+    withNumber (sumsOf entries (sumsPageOf page1 len1 (sumsPageOf page0 len0 noSums))) used
 
 -- 0 where the sums are the same, else 1
 unfoldable pub sumsDifferOf : Sums → Sums → ℕ

@@ -1,24 +1,28 @@
 // Replays a list of the original's answers, and prints how many calls there were and how many differ. No Rust is needed for it.
 //
-// The list, data/answers0.bin and on, cut between items, was made so: `oracle list 1500 --seed 7 --out list.txt` wrote 2,423 answers of the original (the directed calls,
-// then 1,500 random ones; stops 1 to 4 and 7 are the oracle's own). A script turned each call into an item, the answer into document 01's
-// line, and the writes, stored into the given pages, into the two sums below. Then come 121 files that are turned down with 8, 9 or 10: document
-// 01's example cut at every place, with bytes left over, with each field too great or too long, and with random bytes changed; their lines are
-// those that `oracle run FILE` printed, which is the oracle's own reading, for the original has none.
+// The list, data/answers0.bin and on, cut between items, was made by `oracle items 1500 --seed 7 --out DIR`; a test of the oracle makes it again. First
+// come 3,017 calls with the original's answers, where stops 1 to 4, 7 and 11 are the oracle's own: the 923 directed calls of `oracle list` without a log
+// and 1,500 random ones, every third of which has a log; then directed calls with a log: 187 short runs with used counts up to, at and beyond the list's
+// end, each listed opcode once, and the directed calls again, those of a million steps apart. In all 1,094 calls have a log, and 230 end with 11, 123 of
+// them after completed steps. Then come 121 files that are turned down with 8, 9 or 10: document 01's example cut at every place, with bytes left over,
+// with each field too great or too long, and with random bytes changed; their lines are the oracle's own reading, for the original has none.
 // An item, its numbers lowest byte first: the campaign file's length (2 bytes), the two pages' lengths (4 each), the line's length (1), the fill
-// rule's first byte and step (1 each), how many bytes are set after it (1); the campaign file; the line; for each byte that is set its offset (2),
-// page (1) and value (1); the two sums over both pages after the call (8 each). The pages lent are as long as the item says: the fill rule, then
-// the campaign file's bytes at their start, then the bytes that are set. So pages can be longer than a campaign file holds.
+// rule's first byte and step (1 each), how many bytes are set after it (1), the log's used count, or 65,535 where no log is lent (2); the campaign file;
+// document 01's line; for each byte that is set its offset (2), page (1) and value (1); the two sums over what the call leaves (8 each): both pages, then
+// all entries of the list, then the used count. The pages lent are as long as the item says: the fill rule, then the campaign file's bytes at their start,
+// then the bytes that are set. So pages can be longer than a campaign file holds. The list has 64 entries, each FFFFFFFF before the call, also where no
+// log is lent; the used count is then 0.
 ghost use mathlib.Core.Path.{_≡_};
 ghost use Prim.Native.Nat.{_+_, _≤_};
 ghost use lib.ListN.{length, take};
 ghost use Rattle.run.specs.Parts.{RunParts};
-ghost use Rattle.replay.specs.Numbers.{twoOf, fourOf, eightOf, endOf, sumsOf, sumsPageOf, sumsDifferOf, eitherOf, bothOf, nextByteOf};
+ghost use Rattle.replay.specs.Numbers.{twoOf, fourOf, eightOf, endOf, withNumber, sumsOf, sumsPageOf, sumsAfterOf, sumsDifferOf, eitherOf, bothOf, nextByteOf};
 ghost use Rattle.replay.specs.Bytes.{fillOf, copyPageOf, setOf, patchOf, prepareOf, lineDiffersOf};
-ghost use Rattle.replay.specs.Calls.{refusalDiffersOf, callDiffersOf, differsOf, itemDiffersOf, itemOf, replayOf, Replayed};
+ghost use Rattle.replay.specs.Calls.{refusalDiffersOf, logIn, callDiffersOf, differsOf, lentOf, itemDiffersOf, itemOf, replayOf, Replayed};
 use arithmetic::record::Lh5801;
 use libc::STDOUT_FILENO;
-use run::Answer;
+use run::Log;
+use run::Logged;
 use run::Settings;
 use run::campaign_file;
 use run::campaign_file::Campaign;
@@ -28,7 +32,7 @@ use run::line;
 use run::parts;
 use run::report;
 
-// Two running sums over bytes: each byte is added to the first, and then the first to the second, modulo 2^64.
+// Two running sums over numbers: each number is added to the first, and then the first to the second, modulo 2^64.
 struct Sums {
     first: u64,
     second: u64,
@@ -38,6 +42,14 @@ struct Sums {
 struct Rule {
     first: u8,
     step: u8,
+}
+
+// What an item lends its call: pages of two lengths, made by the fill rule, and a log.
+struct Lent {
+    len0: usize,
+    len1: usize,
+    rule: Rule,
+    log: Log,
 }
 
 // How many calls were replayed, and how many of them answered something else than the list.
@@ -50,6 +62,13 @@ fn wide(byte: u8) -> u64
     ensures { λ r. ⌜ (r ≡ byte) × (r ≤ 255) ⌝ }
 {
     byte as u64
+}
+
+// An entry as a number.
+fn entry_number(entry: u32) -> u64
+    ensures { λ r. ⌜ r ≡ entry ⌝ }
+{
+    entry as u64
 }
 
 // The number of two bytes, the lower first.
@@ -76,23 +95,43 @@ fn eight(bytes: &[u8], at: usize) -> u64
     four(bytes, at) + 4294967296 * four(bytes, at + 4)
 }
 
+// The sums with one number more.
+fn with_number(before: Sums, number: u64) -> Sums
+    ensures { λ r. ⌜ r ≡ withNumber before number ⌝ }
+{
+    let first = std::num::wrapping_add_u64(before.first, number);
+    let second = std::num::wrapping_add_u64(before.second, first);
+    Sums {
+        first: first,
+        second: second,
+    }
+}
+
 // The sums go on over the first bytes of a page.
 fn sums_over(page: &[u8], len: usize, before: Sums) -> Sums
     requires { ⌜ len ≤ length (now page) ⌝ }
     ensures { λ r. ⌜ r ≡ sumsOf (take len (now (page .entry))) before ⌝ }
 {
-    let mut first = before.first;
-    let mut second = before.second;
+    let mut sums = before;
     let mut i = 0;
     while i < len {
-        first = std::num::wrapping_add_u64(first, wide(page[i]));
-        second = std::num::wrapping_add_u64(second, first);
+        sums = with_number(sums, wide(page[i]));
         i += 1;
     }
-    Sums {
-        first: first,
-        second: second,
+    sums
+}
+
+// The sums go on over all entries of a list.
+fn sums_entries(entries: &[u32], before: Sums) -> Sums
+    ensures { λ r. ⌜ r ≡ sumsOf (now (entries .entry)) before ⌝ }
+{
+    let mut sums = before;
+    let mut i = 0;
+    while i < entries.len() {
+        sums = with_number(sums, entry_number(entries[i]));
+        i += 1;
     }
+    sums
 }
 
 // The sums go on over the first bytes of an array; where it has not so many, they are 0.
@@ -190,19 +229,37 @@ fn prepare(
     patch(page, which, sets);
 }
 
-// The run call on the starts of two arrays.
+// The log that an item lends: so many entries are used, and 65,535 says that there is no log.
+fn log_of(used: u64) -> Log
+    ensures { λ r. ⌜ r ≡ logIn used ⌝ }
+{
+    if used == 65535 {
+        return Log {
+            lent: false,
+            used: 0,
+        };
+    }
+    Log {
+        lent: true,
+        used: used as usize,
+    }
+}
+
+// The run call on the starts of two arrays, with a list of 64 entries.
 fn run_pages(
     cpu: Lh5801,
     page0: &mut [u8; 65537],
     len0: usize,
     page1: &mut [u8; 65537],
     len1: usize,
+    entries: &mut [u32; 64],
+    log: Log,
     settings: Settings,
-) -> Answer
+) -> Logged
     requires { ⌜ (len0 ≤ 65537) × (len1 ≤ 65537) ⌝ }
-    ensures { λ r. ⌜ RunParts settings cpu (now (page0 .entry)) len0 (now (page1 .entry)) len1 r (now (page0 .exit)) (now (page1 .exit)) ⌝ }
+    ensures { λ r. ⌜ RunParts settings log cpu (now (page0 .entry)) len0 (now (page1 .entry)) len1 (now (entries .entry)) r (now (page0 .exit)) (now (page1 .exit)) (now (entries .exit)) ⌝ }
 {
-    parts::run_parts(cpu, page0, len0, page1, len1, settings)
+    parts::run_parts(cpu, page0, len0, page1, len1, entries, log, settings)
 }
 
 // 0 where the first bytes of a buffer, so many, are those of the wanted line, else 1.
@@ -241,54 +298,67 @@ fn either(line: u64, sums: u64) -> u64
     if line == 0 && sums == 0 { 0 } else { 1 }
 }
 
-// A file that was read: its call, on pages of the given lengths, which the fill rule, the file and the bytes that are set make.
-fn call_differs(
-    file: &[u8],
-    c: Parsed,
+// The sums over what a call leaves: the starts of both pages, all entries of the list, and the used count.
+fn sums_after(
+    page0: &[u8; 65537],
     len0: usize,
+    page1: &[u8; 65537],
     len1: usize,
-    rule: Rule,
-    sets: &[u8],
-    want: &[u8],
-    want_sums: Sums,
-) -> u64
-    requires { ⌜ (len0 ≤ 65537) × (len1 ≤ 65537) ⌝ }
-    ensures { λ r. ⌜ (r ≡ callDiffersOf (now (file .entry)) c len0 len1 rule (now (sets .entry)) (now (want .entry)) «want_sums») × (r ≤ 1) ⌝ }
+    entries: &[u32; 64],
+    used: usize,
+) -> Sums
+    ensures { λ r. ⌜ r ≡ sumsAfterOf (now (page0 .entry)) len0 (now (page1 .entry)) len1 (now (entries .entry)) used ⌝ }
 {
-    let mut page0 = [0u8; 65537];
-    let mut page1 = [0u8; 65537];
-    let mut out = [0u8; 200];
-    prepare(
-        &mut page0,
-        0,
-        len0,
-        rule,
-        file,
-        c.page0_at,
-        c.page0_len,
-        sets,
-    );
-    prepare(
-        &mut page1,
-        1,
-        len1,
-        rule,
-        file,
-        c.page1_at,
-        c.page1_len,
-        sets,
-    );
-    let cpu = c.cpu;
-    let asked = c.asked;
-    let settings = report::settings_of(asked);
-    let a = run_pages(cpu, &mut page0, len0, &mut page1, len1, settings);
-    let n = report::answer_line(&mut out, a);
     let none = Sums {
         first: 0,
         second: 0,
     };
-    let sums = sums_page(&page0, len0, none);
-    let sums = sums_page(&page1, len1, sums);
+    let sums = sums_page(page0, len0, none);
+    let sums = sums_page(page1, len1, sums);
+    let sums = sums_entries(entries, sums);
+    with_number(sums, used as u64)
+}
+
+// A file that was read: its call, on the pages that the fill rule, the file and the bytes that are set make, and with the log.
+fn call_differs(
+    file: &[u8],
+    c: Parsed,
+    lent: Lent,
+    sets: &[u8],
+    want: &[u8],
+    want_sums: Sums,
+) -> u64
+    requires { ⌜ (lent .len0 ≤ 65537) × (lent .len1 ≤ 65537) ⌝ }
+    ensures { λ r. ⌜ (r ≡ callDiffersOf (now (file .entry)) c lent (now (sets .entry)) (now (want .entry)) «want_sums») × (r ≤ 1) ⌝ }
+{
+    let mut page0 = [0u8; 65537];
+    let mut page1 = [0u8; 65537];
+    let mut entries = [0xffff_ffffu32; 64];
+    let mut out = [0u8; 200];
+    let len0 = lent.len0;
+    let len1 = lent.len1;
+    let rule = lent.rule;
+    let at0 = c.page0_at;
+    let at1 = c.page1_at;
+    prepare(&mut page0, 0, len0, rule, file, at0, c.page0_len, sets);
+    prepare(&mut page1, 1, len1, rule, file, at1, c.page1_len, sets);
+    let cpu = c.cpu;
+    let asked = c.asked;
+    let settings = report::settings_of(asked);
+    let log = lent.log;
+    let r = run_pages(
+        cpu,
+        &mut page0,
+        len0,
+        &mut page1,
+        len1,
+        &mut entries,
+        log,
+        settings,
+    );
+    let answer = r.answer;
+    let n = report::answer_line(&mut out, answer);
+    let sums = sums_after(&page0, len0, &page1, len1, &entries, r.used);
     either(line_differs(&out, n, want), sums_differ(sums, want_sums))
 }
 
@@ -301,64 +371,63 @@ fn refusal_differs(stop: Refusal, want: &[u8]) -> u64
     line_differs(&out, n, want)
 }
 
-// One call of the list.
-fn differs(
-    file: &[u8],
-    len0: u64,
-    len1: u64,
-    rule: Rule,
-    sets: &[u8],
-    want: &[u8],
-    want_sums: Sums,
-) -> u64
-    ensures { λ r. ⌜ (r ≡ differsOf (now (file .entry)) len0 len1 rule (now (sets .entry)) (now (want .entry)) «want_sums») × (r ≤ 1) ⌝ }
+// One call of the list. The file is read before the lengths are tested, so that the great stack frame is made at the function's start: with the tests first,
+// clang 22.1.8 makes it behind them, and the loop that does so overwrites r11, where it keeps a length.
+fn differs(file: &[u8], lent: Lent, sets: &[u8], want: &[u8], want_sums: Sums) -> u64
+    ensures { λ r. ⌜ (r ≡ differsOf (now (file .entry)) lent (now (sets .entry)) (now (want .entry)) «want_sums») × (r ≤ 1) ⌝ }
 {
-    if 65537 < len0 {
-        return 1;
-    }
-    if 65537 < len1 {
-        return 1;
-    }
     let read = campaign_file::read_campaign(file);
+    if 65537 < lent.len0 {
+        return 1;
+    }
+    if 65537 < lent.len1 {
+        return 1;
+    }
     match read {
-        Campaign::Read(c) => call_differs(
-            file,
-            c,
-            len0 as usize,
-            len1 as usize,
-            rule,
-            sets,
-            want,
-            want_sums,
-        ),
+        Campaign::Read(c) => call_differs(file, c, lent, sets, want, want_sums),
         Campaign::Refused(stop) => refusal_differs(stop, want),
     }
 }
 
 // The place after the item that begins here.
 fn end_of(bytes: &[u8], at: usize) -> usize
-    requires { ⌜ at + 14 ≤ length (now bytes) ⌝ }
-    ensures { λ r. ⌜ (r ≡ endOf (now (bytes .entry)) at) × (at + 30 ≤ r) ⌝ }
+    requires { ⌜ at + 16 ≤ length (now bytes) ⌝ }
+    ensures { λ r. ⌜ (r ≡ endOf (now (bytes .entry)) at) × (at + 32 ≤ r) ⌝ }
 {
     at
-        + 30
+        + 32
         + two(bytes, at) as usize
         + wide(bytes[at + 10]) as usize
         + 4 * wide(bytes[at + 13]) as usize
 }
 
-// The item that begins here and ends there.
-fn item_differs(bytes: &[u8], at: usize, end: usize) -> u64
-    requires { ⌜ (at + 30 ≤ end) × (end ≤ length (now bytes)) ⌝ }
-    ensures { λ r. ⌜ (r ≡ itemDiffersOf (now (bytes .entry)) at end) × (r ≤ 1) ⌝ }
+// What the item that begins here lends its call.
+fn lent_of(bytes: &[u8], at: usize) -> Lent
+    requires { ⌜ at + 16 ≤ length (now bytes) ⌝ }
+    ensures { λ r. ⌜ r ≡ lentOf (now (bytes .entry)) at ⌝ }
 {
-    let len0 = four(bytes, at + 2);
-    let len1 = four(bytes, at + 6);
+    let len0 = four(bytes, at + 2) as usize;
+    let len1 = four(bytes, at + 6) as usize;
     let rule = Rule {
         first: bytes[at + 11],
         step: bytes[at + 12],
     };
-    let from = at + 14;
+    let log = log_of(two(bytes, at + 14));
+    Lent {
+        len0: len0,
+        len1: len1,
+        rule: rule,
+        log: log,
+    }
+}
+
+// The item that begins here and ends there.
+fn item_differs(bytes: &[u8], at: usize, end: usize) -> u64
+    requires { ⌜ (at + 32 ≤ end) × (end ≤ length (now bytes)) ⌝ }
+    ensures { λ r. ⌜ (r ≡ itemDiffersOf (now (bytes .entry)) at end) × (r ≤ 1) ⌝ }
+{
+    let lent = lent_of(bytes, at);
+    let from = at + 16;
     let to = end - 16;
     let middle = from + two(bytes, at) as usize;
     let last = middle + wide(bytes[at + 10]) as usize;
@@ -371,9 +440,7 @@ fn item_differs(bytes: &[u8], at: usize, end: usize) -> u64
     };
     differs(
         &bytes[from..middle],
-        len0,
-        len1,
-        rule,
+        lent,
         &bytes[last..to],
         &bytes[middle..last],
         want_sums,
@@ -392,7 +459,7 @@ fn item(bytes: &[u8], at: usize) -> Found
     ensures { λ r. ⌜ (r ≡ itemOf (now (bytes .entry)) at) × (at + 1 ≤ r .end) × (r .end ≤ length (now (bytes .entry))) × (r .differs ≤ 1) ⌝ }
 {
     let all = bytes.len();
-    if all - at < 14 {
+    if all - at < 16 {
         return Found {
             end: all,
             differs: 1,
@@ -477,6 +544,7 @@ fn main() {
     let tally = both(tally, replay_path(b"answers4.bin"));
     let tally = both(tally, replay_path(b"answers5.bin"));
     let tally = both(tally, replay_path(b"answers6.bin"));
+    let tally = both(tally, replay_path(b"answers7.bin"));
     io::print_decimal(STDOUT_FILENO, tally.calls);
     io::write_all(STDOUT_FILENO, b" calls, ");
     io::print_decimal(STDOUT_FILENO, tally.differ);

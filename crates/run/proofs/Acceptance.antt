@@ -2,8 +2,8 @@
 use mathlib.Core.Path.{_≡_}
 use mathlib.Core.Bool.{cond, _||_}
 use mathlib.Core.Logic.{inl, inr, ⊎-elim}
-use mathlib.Core.Option.{none, some}
-use Prim.Native.Nat.{_<_, _≤_}
+use mathlib.Core.Option.{Option, none, some}
+use Prim.Native.Nat.{ℕ, _<_, _≤_}
 use native.Mathlib.Decide.{decLt, ℕ-discrete}
 use native.Mathlib.Omega.{arith}
 use borrow.Author.Tests.{lt-ltb, le-ltb, eq-eqb, ne-eqb}
@@ -78,26 +78,28 @@ module _ (s : Settings) (m : Lh5801) (p : Pages) where
         le-ltb 1_000_000 (s .limit) (limit-most h),
       )
 
+-- what a call does, with so many free entries or without a log
+module _ (s : Settings) (free : Option ℕ) (m : Lh5801) (p : Pages) where
   -- an accepted call does its steps
-  pub call-run : Accepted s m p → callOf s m p ≡ runOf (s .limit) (s .inputs) m p
+  pub call-run : Accepted s m p → callOf s free m p ≡ runOf (s .limit) (s .inputs) free m p
   unfolding callOf callUnless
-  call-run h = rw (acceptance-accepted h)
+  call-run h = rw (acceptance-accepted s m p h)
 
   -- a refused call does nothing
-  pub call-end : {e : End} → notAccepted s m p ≡ some e → callOf s m p ≡ noStep e m p
+  pub call-end : {e : End} → notAccepted s m p ≡ some e → callOf s free m p ≡ noStep e m p
   unfolding callOf callUnless
   call-end h = rw h
 
   -- what holds of a refused call, and of the steps of an accepted one, holds of every call
   pub call-each : (P : CallResult → Type 0)
       → ((e : End) → P (noStep e m p))
-      → (Accepted s m p → P (runOf (s .limit) (s .inputs) m p))
-      → P (callOf s m p)
-  call-each P a b = go acceptance-case
+      → (Accepted s m p → P (runOf (s .limit) (s .inputs) free m p))
+      → P (callOf s free m p)
+  call-each P a b = go (acceptance-case s m p)
     where
-      go : Acceptance → P (callOf s m p)
-      go (page0 x) = rw (call-end (acceptance-page0 x)) (a _)
-      go (page1 x y) = rw (call-end (acceptance-page1 x y)) (a _)
-      go (timer x y z) = rw (call-end (acceptance-timer x y z)) (a _)
-      go (limit x y z o) = rw (call-end (acceptance-limit x y z o)) (a _)
+      go : Acceptance s m p → P (callOf s free m p)
+      go (page0 x) = rw (call-end (acceptance-page0 s m p x)) (a _)
+      go (page1 x y) = rw (call-end (acceptance-page1 s m p x y)) (a _)
+      go (timer x y z) = rw (call-end (acceptance-timer s m p x y z)) (a _)
+      go (limit x y z o) = rw (call-end (acceptance-limit s m p x y z o)) (a _)
       go (accepted h) = rw (call-run h) (b h)

@@ -2,6 +2,7 @@
 use Prim.Native.Nat.{ℕ, suc}
 use mathlib.Core.Path.{_≡_, refl}
 use mathlib.Core.Bool.{true, false}
+use mathlib.Core.Option.{none}
 use mathlib.Core.List.{[], _∷_, _++_, map}
 use Rattle.arithmetic.specs.declared.record.Lh5801.{Lh5801}
 use Rattle.execution.specs.declared.Inputs.{Inputs}
@@ -73,7 +74,7 @@ pushed-vector-first p h e f = rw (h, e, f)
 
 -- with any limit from 2 on, the accesses are those of the completed step and then the two reads of the step that stops with 6
 pub stopping-step-reads : (n : ℕ)
-    → accessesOf (suc (suc n)) pressed startRecord twoSteps ≡ stepped pressed startRecord twoSteps .accesses ++ (readOf 0x01 0xFD ∷ readOf 0x02 0x00 ∷ [])
+    → accessesOf (suc (suc n)) pressed none startRecord twoSteps ≡ stepped pressed startRecord twoSteps .accesses ++ (readOf 0x01 0xFD ∷ readOf 0x02 0x00 ∷ [])
 unfolding accessesOf accessesAfter stepped at inside stored setByte store
 stopping-step-reads n = refl
 

@@ -1,10 +1,13 @@
+pub mod BusLog
 pub mod Steps
 pub mod Acceptance
 pub mod Numbers
 pub mod Ends
 pub mod Calls
 pub mod Demand3
+pub mod CutLog
 pub mod Loop
+pub mod LoggedSteps
 pub mod RecordNumbers
 pub mod CampaignFile
 pub mod PrintedLine

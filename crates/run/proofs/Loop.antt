@@ -1,7 +1,6 @@
--- What the loop of a call keeps, and how a step, a stop and the limit go on from it.
+-- What the loop of a call without a log keeps, and how a step, a stop and the limit go on from it.
 use Prim.Native.Nat.{ℕ, _+_, _%_, _^_, _<_, _≤_}
 use native.Mathlib.Omega.{arith}
-use native.Mathlib.Numerals.{add-one}
 use mathlib.Core.List.{List, [], _++_}
 use mathlib.Core.Bool.{true}
 use mathlib.Core.Path.{_≡_, refl, sym, ap, subst, _∙_}
@@ -9,9 +8,8 @@ use Rattle.arithmetic.specs.declared.record.Lh5801.{Lh5801}
 use Rattle.execution.specs.declared.Inputs.{Inputs}
 use lib.ListN.{length}
 use Rattle.pages.specs.Pages.{Pages, pages}
-use Rattle.pages.specs.Prog.{mapped}
+use Rattle.pages.specs.Prog.{Access, mapped}
 use Rattle.pages.specs.Contract.{Does}
-use Rattle.pages.specs.Written.{Write, writes}
 use Rattle.pages.proofs.Does.{mapped-value, mapped-pages}
 use Rattle.execution.specs.declared.Stop.{Stop}
 use Rattle.execution.specs.declared.Outcome.the-variants.{Completed, Stopped}
@@ -21,14 +19,9 @@ use Rattle.execution.specs.Code.Due.{dueOf, Ready}
 use Rattle.execution.proofs.Order.{reached-back, step-reached}
 use Rattle.execution.proofs.DueTest.{due-on}
 use Rattle.execution.proofs.StopsClean.{stop-no-write}
-use mathlib.Core.Option.{some}
-use Rattle.run.specs.declared.Settings.{Settings}
-use Rattle.run.specs.declared.End.{End}
+use mathlib.Core.Option.{none}
 use Rattle.run.specs.declared.End.the-variants.{AllSteps, Step}
-use Rattle.run.specs.Acceptance.{Accepted, notAccepted}
-use Rattle.run.proofs.Acceptance.{call-run, call-end}
-use Rattle.run.specs.declared.Answer.{Answer}
-use Rattle.run.specs.Run.{noStep, oneStep, runOf, callOf}
+use Rattle.run.specs.Run.{oneStep, runOf}
 use Rattle.run.specs.Reaches.{Reaches, start}
 use Rattle.run.specs.declared.Ahead.the-variants.{Open, Stops}
 use Rattle.run.specs.declared.Led.{Led}
@@ -42,8 +35,8 @@ pub record Going (inputs : Inputs) (limit : ℕ) (first : Lh5801) (from : Pages)
   pub within : steps ≤ limit
   pub begun : first .tm < 512
   pub states : ℕ
-  pub wrote : List Write
-  pub reached : Reaches inputs steps first from m p states wrote
+  pub bus : List Access
+  pub reached : Reaches inputs none steps first from m p states bus
 
 -- the same of the lent pages, which keep their lengths
 pub record Kept (inputs : Inputs) (limit : ℕ) (first : Lh5801) (l0 l1 : List ℕ) (steps : ℕ) (m : Lh5801) (n0 n1 : List ℕ) : Type 0 where
@@ -65,7 +58,7 @@ states-only h f e = omega arith
 
 pub at-start : (inputs : Inputs) (limit : ℕ) (m : Lh5801) (p : Pages) → m .tm < 512 → Going inputs limit m p 0 m p
 at-start inputs limit m p h =
-    record { within = omega arith; begun = h; states = 0; wrote = []; reached = start }
+    record { within = omega arith; begun = h; states = 0; bus = []; reached = start }
 
 -- what a step of the code tells of the definition's
 did-outcome : (e : StepEnd) {k : Lh5801} (P : Lh5801 → Type 0) → Completed k ≡ outcomeOf e
@@ -85,8 +78,8 @@ module _ {inputs : Inputs} {limit : ℕ} {first : Lh5801} {from : Pages} {steps 
         within = omega arith;
         begun = g .begun;
         states = g .states + s;
-        wrote = g .wrote ++ writes (oneStep inputs m p .accesses);
-        reached = rw add-one (reaches-then (g .reached) e);
+        bus = g .bus ++ oneStep inputs m p .accesses;
+        reached = reaches-then (g .reached) refl e;
       }
 
   pub go-on : {k : Lh5801} {q : Pages} → steps < limit → Does (mapped outcomeOf (stepOf m inputs)) p (Completed k) q
@@ -103,9 +96,9 @@ module _ {inputs : Inputs} {limit : ℕ} {first : Lh5801} {from : Pages} {steps 
   counted i l = omega (arith, reaches-ticks (g .reached), reaches-most i (g .reached), g .within)
 
   stop-here : {s : Stop} → steps < limit → inputs .idle ≤ 255 → limit ≤ 1_000_000 → oneStep inputs m p .answer ≡ stopped s
-      → Answers (runOf limit inputs first from) (answerOf (Step s) steps (statesBetween (first .ticks) (m .ticks)) m) p
+      → Answers (runOf limit inputs none first from) (answerOf (Step s) steps (statesBetween (first .ticks) (m .ticks)) m) p
   stop-here {s = s} h i l e =
-      record { answer = rw (counted i l, reaches-stop limit (g .reached) h e); pages = rw (reaches-stop limit (g .reached) h e) refl }
+      record { answer = rw (counted i l, reaches-stop limit (g .reached) h (refl, e)); pages = rw (reaches-stop limit (g .reached) h (refl, e)) refl }
 
   -- a stretch of steps, and one whose next step stops
   pub led-on : {r : Led} {q : Pages} → Leads inputs steps limit m p r q → Going inputs limit first from (r .steps) (r .cpu) q
@@ -114,7 +107,7 @@ module _ {inputs : Inputs} {limit : ℕ} {first : Lh5801} {from : Pages} {steps 
         within = l .within;
         begun = g .begun;
         states = g .states + l .states;
-        wrote = g .wrote ++ l .wrote;
+        bus = g .bus ++ l .bus;
         reached = rw (l .steps) (reaches-all (g .reached) (l .reached));
       }
 
@@ -127,7 +120,7 @@ pub led-stop : {inputs : Inputs} {limit : ℕ} {first : Lh5801} {from : Pages} {
     → limit ≤ 1_000_000
     → Leads inputs steps limit m p r q
     → r .ahead ≡ Stops s
-    → Answers (runOf limit inputs first from) (answerOf (Step s) (r .steps) (statesBetween (first .ticks) (r .cpu .ticks)) (r .cpu)) q
+    → Answers (runOf limit inputs none first from) (answerOf (Step s) (r .steps) (statesBetween (first .ticks) (r .cpu .ticks)) (r .cpu)) q
 led-stop {inputs} {limit} {steps = steps} {q = q} {r = r} {s = s} g i l d e =
     let a : AheadIs inputs steps limit (r .steps) (r .cpu) q (Stops s) = subst (AheadIs inputs steps limit (r .steps) (r .cpu) q) e (d .ahead) in
     stop-here (led-on g d) (a .0) i l (a .1)
@@ -144,12 +137,12 @@ module _ {inputs : Inputs} {done limit : ℕ} {m : Lh5801} {p q : Pages} (room :
   pub one-did : {k : Lh5801} → m .tm < 512 → Does (mapped outcomeOf (stepOf m inputs)) p (Completed k) q → Leads inputs done limit m p (led (done + 1) k Open) q
   one-did h d =
       let g : Going inputs 1 m p 1 _ q = go-on (at-start inputs 1 m p h) (omega arith) d in
-      record { more = 1; steps = refl; within = omega arith; states = g .states; wrote = g .wrote; reached = g .reached; ahead = omega arith }
+      record { more = 1; steps = refl; within = omega arith; states = g .states; bus = g .bus; reached = g .reached; ahead = omega arith }
 
   pub one-stops : {s : Stop} → Does (mapped outcomeOf (stepOf m inputs)) p (Stopped s) q → Leads inputs done limit m p (led done m (Stops s)) q
   one-stops d =
       let t = stop-step m inputs d in
-      rw (t .1) (record { more = 0; steps = omega arith; within = omega arith; states = 0; wrote = []; reached = start; ahead = (room, t .0) })
+      rw (t .1) (record { more = 0; steps = omega arith; within = omega arith; states = 0; bus = []; reached = start; ahead = (room, t .0) })
 
 -- instruction after instruction: where one is due, timer reached first moves to IR1
 same-step : (inputs : Inputs) (m : Lh5801) {first : Lh5801} → dueOf m ≡ true → first ≡ reachedOf m → stepOf first inputs ≡ stepOf m inputs
@@ -169,7 +162,7 @@ module _ {inputs : Inputs} {done limit : ℕ} {m first : Lh5801} {from : Pages} 
           steps = e;
           within = w;
           states = g .states;
-          wrote = g .wrote;
+          bus = g .bus;
           reached = reaches-from (same-step inputs m due moved) (omega arith) (g .reached);
           ahead = h;
         }
@@ -184,7 +177,7 @@ module _ {inputs : Inputs} {done limit : ℕ} {m first : Lh5801} {from : Pages} 
           steps = e;
           within = omega arith;
           states = g .states;
-          wrote = g .wrote;
+          bus = g .bus;
           reached = reaches-from (same-step inputs m due moved) (omega (arith, n)) (g .reached);
           ahead = (h, t .0);
         })
@@ -201,17 +194,8 @@ module _ {inputs : Inputs} {done limit : ℕ} {m first : Lh5801} {from : Pages} 
 
 pub at-limit : {inputs : Inputs} {limit : ℕ} {first : Lh5801} {from : Pages} {steps : ℕ} {m : Lh5801} {p : Pages} (g : Going inputs limit first from steps m p)
     → limit ≤ steps → inputs .idle ≤ 255 → limit ≤ 1_000_000
-    → Answers (runOf limit inputs first from) (answerOf AllSteps steps (statesBetween (first .ticks) (m .ticks)) m) p
+    → Answers (runOf limit inputs none first from) (answerOf AllSteps steps (statesBetween (first .ticks) (m .ticks)) m) p
 at-limit {inputs} {limit} {first} {from} {steps} {m} {p} g h i l =
     let e : limit ≡ steps = omega (arith, g .within) in
-    let r : runOf limit inputs first from ≡ _ = ap (λ (n : ℕ). runOf n inputs first from) e ∙ reaches-run (g .reached) in
+    let r : runOf limit inputs none first from ≡ _ = ap (λ (n : ℕ). runOf n inputs none first from) e ∙ reaches-run (g .reached) in
     record { answer = rw (counted g i l, r) refl; pages = rw r refl }
-
--- a call that is not accepted, and one that is accepted
-module _ (s : Settings) (m : Lh5801) (p : Pages) where
-  pub refused-answers : {e : End} {r : Answer} → notAccepted s m p ≡ some e → r ≡ answerOf e 0 0 m → Answers (callOf s m p) r p
-  unfolding noStep
-  refused-answers h t = record { answer = rw (call-end s m p h) t; pages = rw (call-end s m p h) refl }
-
-  pub accepted-answers : {r : Answer} {q : Pages} → Accepted s m p → Answers (runOf (s .limit) (s .inputs) m p) r q → Answers (callOf s m p) r q
-  accepted-answers h a = rw (call-run s m p h) a

@@ -3,6 +3,7 @@ use Prim.Native.Nat.{ℕ, _+_, _≤_}
 use native.Mathlib.Omega.{arith}
 use native.Mathlib.Nat.{min-le-right}
 use mathlib.Core.List.{List}
+use mathlib.Core.Option.{none}
 use mathlib.Core.Path.{_≡_, sym, ap, _∙_}
 use lib.ListN.{length, take, length-take}
 use Rattle.run.specs.declared.campaign_file.PagePlace.{PagePlace}
@@ -59,7 +60,7 @@ module _ (bytes : List ℕ) {x : Campaign} (is-answer : x ≡ campaignAnswer (ca
   pub file-within : {c : Parsed} → x ≡ Campaign.Read c → PagesInFile bytes c
   file-within {c} g = let t = file-read (campaignOf bytes 0) is-answer g in campaign-within bytes c (t .next) (t .is)
 
-  pub report-read : {c : Parsed} → x ≡ Campaign.Read c → reportOf bytes ≡ answerLine (callOf (settingsIn (c .asked)) (c .cpu) (pagesIn bytes c) .answer)
+  pub report-read : {c : Parsed} → x ≡ Campaign.Read c → reportOf bytes ≡ answerLine (callOf (settingsIn (c .asked)) none (c .cpu) (pagesIn bytes c) .answer)
   unfolding reportOf
   report-read g = rw (file-read (campaignOf bytes 0) is-answer g .is)
 

@@ -11,15 +11,16 @@ use Rattle.pages.specs.Pages.{Pages}
 use Rattle.execution.specs.Stops.{stopNumber, stopByte}
 use Rattle.run.specs.declared.Settings.{Settings}
 use Rattle.run.specs.declared.End.{End}
-use Rattle.run.specs.declared.End.the-variants.{AllSteps, Page0Length, Page1Length, TimerValue, Limit, Step}
+use Rattle.run.specs.declared.End.the-variants.{AllSteps, Page0Length, Page1Length, TimerValue, Limit, LogFull, Step}
 
--- document 01's number of each end
+-- document 01's number of each end, and document 02's 11
 abbrev pub endNumber : End → ℕ
 endNumber AllSteps = 0
 endNumber Page0Length = 1
 endNumber Page1Length = 2
 endNumber TimerValue = 3
 endNumber Limit = 4
+endNumber LogFull = 11
 endNumber (Step s) = stopNumber s
 
 -- and its byte
@@ -29,6 +30,7 @@ endByte Page0Length = 0
 endByte Page1Length = 0
 endByte TimerValue = 0
 endByte Limit = 0
+endByte LogFull = 0
 endByte (Step s) = stopByte s
 
 -- the conditions of 1 to 4

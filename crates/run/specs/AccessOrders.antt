@@ -2,6 +2,7 @@
 -- states; and the accesses of calls, with what of them is read before it is written. proofs/AccessOrders.antt has the theorems over them.
 use Prim.Native.Nat.{ℕ}
 use mathlib.Core.Bool.{Bool, true, false}
+use mathlib.Core.Option.{none}
 use mathlib.Core.List.{List, [], _∷_, _++_, map}
 use lib.ListN.{length, drop, replicate}
 use Rattle.arithmetic.specs.declared.record.Lh5801.{Lh5801}
@@ -9,7 +10,7 @@ use Rattle.arithmetic.specs.Record.{with-t, with-x, with-u, with-s, with-p, wit
 use Rattle.arithmetic.specs.Flags.{CF, IE}
 use Rattle.pages.specs.Pages.{Pages, pages}
 use Rattle.pages.specs.Prog.{Access, readOf, writeOf}
-use Rattle.pages.specs.Written.{Write, readFirst}
+use Rattle.pages.specs.Written.{Write, writes, readFirst}
 use Rattle.execution.specs.Inputs.{ofKeyboard}
 use Rattle.execution.specs.Stops.{stopNumber}
 use Rattle.execution.specs.Step.{StepEnd, did, stopped}
@@ -208,13 +209,13 @@ callSeenOf o p l = record {
   byte = endByte (o .answer .end);
   steps = o .answer .steps;
   states = o .answer .states;
-  wrote = o .wrote;
+  wrote = writes (o .bus);
   accesses = l;
   first = map (λ (a : ℕ). readFirst p a l) (0x00 ∷ 0x01 ∷ 0x02 ∷ 0x08 ∷ []);
 }
 
 abbrev pub callSeen : ℕ → Lh5801 → Pages → CallSeen
-callSeen limit m p = callSeenOf (callOf (settings (ofKeyboard 0x77) limit) m p) p (accessesOf limit (ofKeyboard 0x77) m p)
+callSeen limit m p = callSeenOf (callOf (settings (ofKeyboard 0x77) limit) none m p) p (accessesOf limit (ofKeyboard 0x77) none m p)
 
 pub record CallCase : Type 0 where
   pub limit : ℕ

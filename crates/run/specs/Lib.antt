@@ -1,8 +1,10 @@
+pub mod BusLog
 pub mod Acceptance
 pub mod Run
 pub mod Reaches
 pub mod Code
 pub mod Demand
+pub mod CutLog
 pub mod Answers
 pub mod RecordNumbers
 pub mod CampaignFile

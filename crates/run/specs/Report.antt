@@ -1,6 +1,7 @@
 -- A campaign file, from its bytes to the line that the program prints (document 01, "Campaign file").
 use Prim.Native.Nat.{ℕ}
 use mathlib.Core.List.{List}
+use mathlib.Core.Option.{none}
 use Rattle.pages.specs.Pages.{Pages, pages}
 use Rattle.execution.specs.Inputs.{ofKeyboard}
 use Rattle.run.specs.declared.campaign_file.Asked.{Asked}
@@ -25,9 +26,9 @@ settingsIn asked = settings (ofKeyboard (asked .keyboard)) (asked .limit)
 abbrev pub answerLine : Answer → List ℕ
 answerLine a = lineOf (endNumber (a .end)) (a .steps) (a .states) (a .cpu)
 
--- a file that is refused runs nothing; a file that is read is one run call
+-- a file that is refused runs nothing; a file that is read is one run call without a log
 abbrev pub reportFrom : List ℕ → Field Parsed → List ℕ
-reportFrom bytes (read c next) = answerLine (callOf (settingsIn (c .asked)) (c .cpu) (pagesIn bytes c) .answer)
+reportFrom bytes (read c next) = answerLine (callOf (settingsIn (c .asked)) none (c .cpu) (pagesIn bytes c) .answer)
 reportFrom bytes (refused stop) = refusalLineOf (refusalNumber stop) (refusalOffset stop)
 
 unfoldable pub reportOf : List ℕ → List ℕ

@@ -7,7 +7,6 @@ use Rattle.arithmetic.specs.declared.record.Lh5801.{Lh5801}
 use Rattle.execution.specs.declared.Stop.the-variants.{Halted}
 use Rattle.pages.specs.Pages.{Pages, pages}
 use Rattle.pages.specs.Prog.{Access, readOf, writeOf, Ran}
-use Rattle.pages.specs.Written.{Write}
 use Rattle.execution.specs.Step.{off, held, interrupt, waiting, StepEnd, did, stopped}
 use Rattle.run.specs.declared.End.the-variants.{AllSteps}
 use Rattle.run.specs.Run.{CallResult, callResult}
@@ -74,16 +73,9 @@ parkRecord = recordOf (0 ∷ 2 ∷ 0 ∷ 0 ∷ 0 ∷ 0x0004 ∷ 0x0000 ∷ 0x1FC
 abbrev pub parkPages : ℕ → ℕ → ℕ → Pages
 parkPages a b c = pages (0xFD ∷ 0xB1 ∷ a ∷ b ∷ c ∷ (replicate 65_525 0x00 ++ (0x12 ∷ 0x34 ∷ 0x00 ∷ 0x00 ∷ 0x00 ∷ 0x00 ∷ []))) []
 
-abbrev pub wrote : ℕ → ℕ → Write
-wrote a v = record { address = a; byte = v }
-
 -- seven steps with the idle figure 20: HLT, 9 states; five that wait, 20 states each, with shifts after the second, to 1FE, and the fifth, to 1FF; and
 -- the timer's entry, which pushes T with IE and P 0002
 unfoldable pub parkComes : CallResult
 parkComes =
     callResult AllSteps 7 109 (recordOf (0 ∷ 0 ∷ 0 ∷ 0 ∷ 0 ∷ 0x0001 ∷ 0x1234 ∷ 0x1FF ∷ 0x008 ∷ 109 ∷ 109 ∷ 109 ∷ [])) (parkPages 0x00 0x02 0x02)
-    (wrote 0x0004 0x02 ∷ wrote 0x0003 0x02 ∷ wrote 0x0002 0x00 ∷ [])
-
-unfoldable pub parkAccesses : List Access
-parkAccesses =
-    readOf 0x0000 0xFD ∷ readOf 0x0001 0xB1 ∷ writeOf 0x0004 0x02 ∷ writeOf 0x0003 0x02 ∷ writeOf 0x0002 0x00 ∷ readOf 0xFFFA 0x12 ∷ readOf 0xFFFB 0x34 ∷ []
+    (readOf 0x0000 0xFD ∷ readOf 0x0001 0xB1 ∷ writeOf 0x0004 0x02 ∷ writeOf 0x0003 0x02 ∷ writeOf 0x0002 0x00 ∷ readOf 0xFFFA 0x12 ∷ readOf 0xFFFB 0x34 ∷ [])

@@ -1,15 +1,18 @@
 // The run call.
 ghost use mathlib.Core.Path.{_≡_};
 ghost use mathlib.Core.Bool.{true, false};
-ghost use Prim.Native.Nat.{_≤_, _<_};
+ghost use mathlib.Core.Option.{none, some};
+ghost use Prim.Native.Nat.{_-_, _≤_, _<_};
 ghost use Rattle.pages.specs.Contract.{atEntry, atExit};
 ghost use Rattle.execution.specs.Code.Due.{dueOf};
 ghost use Rattle.run.specs.Acceptance.{endNumber, endByte};
 ghost use Rattle.run.specs.Run.{runOf, callOf};
 ghost use Rattle.run.specs.declared.Ahead.the-variants.{Open, Stops};
 ghost use Rattle.run.specs.Code.Leads.{led, unmovedOf, Leads};
-ghost use Rattle.run.specs.Answers.{Answers};
-ghost use Rattle.run.specs.Code.States.{answerOf, statesBetween};
+ghost use Rattle.run.specs.BusLog.{freeIn, logFull};
+ghost use Rattle.run.specs.Answers.{Answers, LogAnswers};
+ghost use Rattle.run.specs.Code.States.{answerOf, loggedOf, statesBetween};
+ghost use Rattle.run.specs.Code.Coming.{NotesComing};
 use arithmetic::record::Lh5801;
 use execution::Executed;
 use execution::Inputs;
@@ -27,13 +30,20 @@ pub struct Settings {
     pub limit: u32,
 }
 
-// Why a call ended: all its steps done, not accepted, or a step's stop.
+// Document 02, F-2: is the list of entries that a call gets lent as a log, and how many of them are used?
+pub struct Log {
+    pub lent: bool,
+    pub used: usize,
+}
+
+// Why a call ended: all its steps done, not accepted, the log full before a step, or a step's stop.
 pub enum End {
     AllSteps,
     Page0Length,
     Page1Length,
     TimerValue,
     Limit,
+    LogFull,
     Step(execution::Stop),
 }
 
@@ -45,16 +55,10 @@ pub struct Answer {
     pub cpu: Lh5801,
 }
 
-// The given record, and no step.
-fn refused(cpu: Lh5801, end: End) -> Answer
-    ensures { λ r. ⌜ r ≡ answerOf end 0 0 cpu ⌝ }
-{
-    Answer {
-        end: end,
-        steps: 0,
-        states: 0,
-        cpu: cpu,
-    }
+// What a call with a list of entries returns: its answer, and how many entries are used after it.
+pub struct Logged {
+    pub answer: Answer,
+    pub used: usize,
 }
 
 // The record after the completed steps; their states are what the ticks moved on by since first.
@@ -189,10 +193,10 @@ fn advance(
     instructions(cpu, page0, page1, inputs, done, limit)
 }
 
-// Steps up to the limit, or to the first that stops.
+// Steps up to the limit, or to the first that stops, without a log.
 fn steps_of(cpu: Lh5801, page0: &mut [u8], page1: &mut [u8], inputs: Inputs, limit: u32) -> Answer
     requires { ⌜ (cpu .tm < 512) × (limit ≤ 1000000) ⌝ }
-    ensures { λ r. ⌜ Answers (runOf limit inputs cpu (atEntry page0 page1)) r (atExit page0 page1) ⌝ }
+    ensures { λ r. ⌜ Answers (runOf limit inputs none cpu (atEntry page0 page1)) r (atExit page0 page1) ⌝ }
 {
     let first = cpu.ticks;
     let mut current = cpu;
@@ -212,27 +216,138 @@ fn steps_of(cpu: Lh5801, page0: &mut [u8], page1: &mut [u8], inputs: Inputs, lim
     answered(current, first, steps, End::AllSteps)
 }
 
+// Fewer than seven entries of a log are free, or the used count is beyond it.
+fn log_full(length: usize, used: usize) -> bool
+    ensures { λ r. ⌜ r ≡ logFull (some (length - used)) ⌝ }
+{
+    if length < used {
+        return true;
+    }
+    length - used < 7
+}
+
+// What is seen of the log before a step: that it is full, or how many entries are used with the coming step's.
+struct Coming {
+    full: bool,
+    used: usize,
+}
+
+// Before a step of a call with a log: 11 is looked for, and the coming step's accesses are noted from the used count on, none if it will stop. This is
+// called from two places, so that the compiler keeps it out of the loops.
+fn note_coming(cpu: Lh5801, page0: &[u8], page1: &[u8], entries: &mut [u32], used: usize) -> Coming
+    ensures { λ r. ⌜ NotesComing cpu page0 page1 entries used r ⌝ }
+{
+    if log_full(entries.len(), used) {
+        return Coming {
+            full: true,
+            used: used,
+        };
+    }
+    let next = bus::note_step(cpu, page0, page1, entries, used);
+    Coming {
+        full: false,
+        used: next,
+    }
+}
+
+// What the steps so far come to, and how many entries are used.
+fn logged_answer(cpu: Lh5801, steps: u32, states: u64, end: End, used: usize) -> Logged
+    ensures { λ r. ⌜ r ≡ loggedOf (answerOf end steps states cpu) used ⌝ }
+{
+    let answer = Answer {
+        end: end,
+        steps: steps,
+        states: states,
+        cpu: cpu,
+    };
+    Logged {
+        answer: answer,
+        used: used,
+    }
+}
+
+// The given record, and no step.
+fn refused(cpu: Lh5801, end: End, used: usize) -> Logged
+    ensures { λ r. ⌜ r ≡ loggedOf (answerOf end 0 0 cpu) used ⌝ }
+{
+    logged_answer(cpu, 0, 0, end, used)
+}
+
+// The steps of a call that may have a log, round after round, up to the limit or to the first that stops. Without a log a round is all of them; with
+// one it is one step, and the log is looked at before it.
+fn steps_with_log(
+    cpu: Lh5801,
+    page0: &mut [u8],
+    page1: &mut [u8],
+    entries: &mut [u32],
+    log: Log,
+    inputs: Inputs,
+    limit: u32,
+) -> Logged
+    requires { ⌜ (cpu .tm < 512) × (0 < limit) × (limit ≤ 1000000) ⌝ }
+    ensures { λ r. ⌜ LogAnswers (runOf limit inputs (freeIn log (now (entries .entry))) cpu (atEntry page0 page1)) log (now (entries .entry)) (now (entries .exit)) r (atExit page0 page1) ⌝ }
+{
+    let mut current = cpu;
+    let mut steps: u32 = 0;
+    let mut states: u64 = 0;
+    let mut used = log.used;
+    let mut until = limit;
+    if log.lent {
+        let coming = note_coming(cpu, page0, page1, entries, used);
+        if coming.full {
+            return refused(cpu, End::LogFull, used);
+        }
+        used = coming.used;
+        until = 1;
+    }
+    loop {
+        let part = steps_of(current, page0, page1, inputs, until);
+        current = part.cpu;
+        steps = steps + part.steps;
+        states = states + part.states;
+        let end = part.end;
+        if part.steps < until {
+            return logged_answer(current, steps, states, end, used);
+        }
+        if limit <= steps {
+            return logged_answer(current, steps, states, end, used);
+        }
+        let coming = note_coming(current, page0, page1, entries, used);
+        if coming.full {
+            return logged_answer(current, steps, states, End::LogFull, used);
+        }
+        used = coming.used;
+    }
+}
+
 // The run call: not accepted, or its steps.
-pub fn run(cpu: Lh5801, page0: &mut [u8], page1: &mut [u8], settings: Settings) -> Answer
-    ensures { λ r. ⌜ Answers (callOf settings cpu (atEntry page0 page1)) r (atExit page0 page1) ⌝ }
+pub fn run(
+    cpu: Lh5801,
+    page0: &mut [u8],
+    page1: &mut [u8],
+    entries: &mut [u32],
+    log: Log,
+    settings: Settings,
+) -> Logged
+    ensures { λ r. ⌜ LogAnswers (callOf settings (freeIn log (now (entries .entry))) cpu (atEntry page0 page1)) log (now (entries .entry)) (now (entries .exit)) r (atExit page0 page1) ⌝ }
 {
     if 65536 < page0.len() {
-        return refused(cpu, End::Page0Length);
+        return refused(cpu, End::Page0Length, log.used);
     }
     if 65536 < page1.len() {
-        return refused(cpu, End::Page1Length);
+        return refused(cpu, End::Page1Length, log.used);
     }
     if 511 < cpu.tm {
-        return refused(cpu, End::TimerValue);
+        return refused(cpu, End::TimerValue, log.used);
     }
     if settings.limit == 0 {
-        return refused(cpu, End::Limit);
+        return refused(cpu, End::Limit, log.used);
     }
     if 1000000 < settings.limit {
-        return refused(cpu, End::Limit);
+        return refused(cpu, End::Limit, log.used);
     }
     let inputs = settings.inputs;
-    steps_of(cpu, page0, page1, inputs, settings.limit)
+    steps_with_log(cpu, page0, page1, entries, log, inputs, settings.limit)
 }
 
 // Document 01's number of a call's end.
@@ -245,6 +360,7 @@ pub fn number(end: End) -> u8
         End::Page1Length => 2,
         End::TimerValue => 3,
         End::Limit => 4,
+        End::LogFull => 11,
         End::Step(stop) => match stop {
             execution::Stop::UnlistedFirst(byte) => 5,
             execution::Stop::UnlistedFd(byte) => 6,
@@ -268,5 +384,6 @@ pub fn byte(end: End) -> u8
         End::Page1Length => 0,
         End::TimerValue => 0,
         End::Limit => 0,
+        End::LogFull => 0,
     }
 }

@@ -3,7 +3,8 @@ ghost use mathlib.Core.Path.{_≡_};
 ghost use Prim.Native.Nat.{_+_, _≤_};
 ghost use lib.ListN.{length};
 ghost use Rattle.run.specs.Parts.{part, atStart, RunParts};
-use crate::Answer;
+use crate::Log;
+use crate::Logged;
 use crate::Settings;
 use arithmetic::record::Lh5801;
 
@@ -26,10 +27,19 @@ pub fn run_parts(
     len0: usize,
     page1: &mut [u8],
     len1: usize,
+    entries: &mut [u32],
+    log: Log,
     settings: Settings,
-) -> Answer
+) -> Logged
     requires { ⌜ (len0 ≤ length (now page0)) × (len1 ≤ length (now page1)) ⌝ }
-    ensures { λ r. ⌜ RunParts settings cpu (now (page0 .entry)) len0 (now (page1 .entry)) len1 r (now (page0 .exit)) (now (page1 .exit)) ⌝ }
+    ensures { λ r. ⌜ RunParts settings log cpu (now (page0 .entry)) len0 (now (page1 .entry)) len1 (now (entries .entry)) r (now (page0 .exit)) (now (page1 .exit)) (now (entries .exit)) ⌝ }
 {
-    crate::run(cpu, &mut page0[..len0], &mut page1[..len1], settings)
+    crate::run(
+        cpu,
+        &mut page0[..len0],
+        &mut page1[..len1],
+        entries,
+        log,
+        settings,
+    )
 }

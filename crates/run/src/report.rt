@@ -1,11 +1,13 @@
 // A campaign file, from its bytes to the line that the program prints.
 ghost use mathlib.Core.Path.{_≡_};
+ghost use mathlib.Core.Option.{none};
 ghost use Prim.Native.Nat.{_+_, _≤_};
 ghost use lib.ListN.{length};
 ghost use Rattle.run.specs.Run.{callOf};
 ghost use Rattle.run.specs.Line.{Printed};
 ghost use Rattle.run.specs.Report.{pagesIn, settingsIn, answerLine, reportOf};
 use crate::Answer;
+use crate::Log;
 use crate::Settings;
 use crate::campaign_file;
 use crate::campaign_file::Asked;
@@ -26,11 +28,11 @@ pub fn settings_of(asked: Asked) -> Settings
     }
 }
 
-// A file that was read: its run call.
+// A file that was read: its run call, without a log.
 fn file_answer(bytes: &[u8], c: Parsed) -> Answer
     requires { ⌜ (c .«page0_at» + c .«page0_len» ≤ length (now bytes)) × (c .«page0_len» ≤ 16384) ⌝ }
     requires { ⌜ (c .«page1_at» + c .«page1_len» ≤ length (now bytes)) × (c .«page1_len» ≤ 16384) ⌝ }
-    ensures { λ r. ⌜ r ≡ callOf (settingsIn (c .asked)) (c .cpu) (pagesIn (now (bytes .entry)) c) .answer ⌝ }
+    ensures { λ r. ⌜ r ≡ callOf (settingsIn (c .asked)) none (c .cpu) (pagesIn (now (bytes .entry)) c) .answer ⌝ }
 {
     let mut page0 = [0u8; 16384];
     let mut page1 = [0u8; 16384];
@@ -39,14 +41,22 @@ fn file_answer(bytes: &[u8], c: Parsed) -> Answer
     let cpu = c.cpu;
     let asked = c.asked;
     let settings = settings_of(asked);
-    parts::run_parts(
+    let mut entries = [0u32; 1];
+    let log = Log {
+        lent: false,
+        used: 0,
+    };
+    let r = parts::run_parts(
         cpu,
         &mut page0,
         c.page0_len,
         &mut page1,
         c.page1_len,
+        &mut entries,
+        log,
         settings,
-    )
+    );
+    r.answer
 }
 
 // The line of a call.

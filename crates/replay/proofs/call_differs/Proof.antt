@@ -8,19 +8,19 @@ use Rattle.replay.proofs.call_differs.Tie as tie
 returns : tie.Need-returns
 unfolding callDiffersOf callResultOf
 returns c =
-    let line = c .before .before .before .before .before .before .before .before in
-    let call = line .before .before in
-    let settings = call .before .before .before in
+    let sums = c .before .before .before .before in
+    let line = sums .before .before .before .before in
+    let call = line .before .before .before in
+    let settings = call .before .before .before .before .before in
     let second = settings .before .before .before .before in
     let first = second .before .before .before in
-    let start = first .before .before .before .before .before in
+    let start = first .before .before .before .before .before .before in
     let a = start .args in (
-      call-result {q0 = prepareOf blank 0 (a .len0) (a .rule) (a .file .now) (a .c .«page0_at») (a .c .«page0_len») (a .sets .now)}
-          {q1 = prepareOf blank 1 (a .len1) (a .rule) (a .file .now) (a .c .«page1_at») (a .c .«page1_len») (a .sets .now)}
+      call-result {q0 = prepareOf blank 0 (a .lent .len0) (a .lent .rule) (a .file .now) (a .c .«page0_at») (a .c .«page0_len») (a .sets .now)}
+          {q1 = prepareOf blank 1 (a .lent .len1) (a .lent .rule) (a .file .now) (a .c .«page1_at») (a .c .«page1_len») (a .sets .now)}
           (a .want .now) (a .want-sums) (start .pre .0) (start .pre .1)
           (first .prepare .ensures) (second .prepare2 .ensures) (rw (settings .settings-of .ensures) at (call .run-pages .ensures)) (line .answer-line .ensures)
-          (c .before .before .before .before .before .before .sums-page .ensures) (c .before .before .before .before .sums-page2 .ensures)
-          (c .before .before .line-differs .ensures .0) (c .before .sums-differ .ensures) (c .either .ensures .0),
+          (sums .sums-after .ensures) (c .before .before .line-differs .ensures .0) (c .before .sums-differ .ensures) (c .either .ensures .0),
       c .either .ensures .1,
     )
 
@@ -31,7 +31,6 @@ call-differs-spec =
     (λ c. search needs)
     (λ c κs. search needs)
     (λ c. search needs)
-    (λ c κs. search needs)
     (λ c κs. search needs)
     (λ c κs. search needs)
     (λ c κs. search needs)

@@ -13,17 +13,18 @@ returns c = (rw (lt-ltb _ _ (c .if1 .taken)), omega arith)
 
 returns-2 : tie.Need-returns-2
 unfolding differsOf
-returns-2 c = (rw (le-ltb _ _ (c .before .if1 .left), lt-ltb _ _ (c .if2 .taken)), omega arith)
+returns-2 c = (rw (le-ltb _ _ (c .before .before .if1 .left), lt-ltb _ _ (c .if2 .taken)), omega arith)
 
 returns-3 : tie.Need-returns-3
 unfolding differsOf
 returns-3 c =
-    let file = c .before .before .before .before in
-    let test = file .before .before in (
+    let second = c .before .before .before .before in
+    let first = second .before .before in
+    let file = first .before .before in (
       rw (
-        le-ltb _ _ (test .if1 .left),
-        le-ltb _ _ (file .before .if2 .left),
-        file-read (campaignOf (test .before .before .before .before .args .file .now) 0) (file .read-campaign .ensures) (c .before .before .read .given .1) .is,
+        le-ltb _ _ (first .if1 .left),
+        le-ltb _ _ (second .if2 .left),
+        file-read (campaignOf (file .before .before .before .before .args .file .now) 0) (file .read-campaign .ensures) (c .before .before .read .given .1) .is,
       )
           (c .call-differs .ensures .0),
       c .call-differs .ensures .1,
@@ -32,12 +33,13 @@ returns-3 c =
 returns-4 : tie.Need-returns-4
 unfolding differsOf
 returns-4 c =
-    let file = c .before .before .before .before in
-    let test = file .before .before in (
+    let second = c .before .before .before .before in
+    let first = second .before .before in
+    let file = first .before .before in (
       rw (
-        le-ltb _ _ (test .if1 .left),
-        le-ltb _ _ (file .before .if2 .left),
-        file-refused (campaignOf (test .before .before .before .before .args .file .now) 0) (file .read-campaign .ensures) (c .before .before .read2 .given .1),
+        le-ltb _ _ (first .if1 .left),
+        le-ltb _ _ (second .if2 .left),
+        file-refused (campaignOf (file .before .before .before .before .args .file .now) 0) (file .read-campaign .ensures) (c .before .before .read2 .given .1),
       )
           (c .refusal-differs .ensures .0),
       c .refusal-differs .ensures .1,
@@ -47,9 +49,9 @@ pub differs-spec : {M : Type 1} → statement M
 differs-spec =
     tie.close
     (tie.spec
+    (λ c κs. search needs)
     returns
     returns-2
-    (λ c κs. search needs)
     (λ c. search needs)
     (λ c κs. search needs)
     (λ c. search needs)

@@ -18,8 +18,7 @@ returns-2 c =
         ← two .two .ensures .0,
         ← test .before .wide .ensures .0,
         le-ltb _ _ (test .if1 .left),
-        ← two .before .before .before .before .four .ensures .0,
-        ← two .before .before .before .four2 .ensures .0,
+        ← two .before .lent-of .ensures,
         ← c .before .before .before .before .before .eight .ensures,
         ← c .before .before .before .before .eight2 .ensures,
       )
@@ -31,14 +30,7 @@ pub item-differs-spec : {M : Type 1} → statement M
 item-differs-spec =
     tie.close
     (tie.spec
-    (λ c. search needs)
     (λ c κs. search needs)
-    (λ c. search needs)
-    (λ c κs. search needs)
-    (λ c. search needs)
-    (λ c. search needs)
-    (λ c. search needs)
-    (λ c. search needs)
     (λ c. search needs)
     (λ c. search needs)
     (λ c κs. search needs)

@@ -9,21 +9,21 @@ use Rattle.replay.proofs.sums_over.Statement.{statement}
 use Rattle.replay.proofs.sums_over.Tie as tie
 
 abbrev Inv-loop : tie.InvT-loop
-Inv-loop page len first₀ second₀ i₀ first second i =
-    (i ≤ len) × (record { first = first; second = second } ≡ sumsOf (take i page) (record { first = first₀; second = second₀ }))
+Inv-loop page len sums₀ i₀ sums i = (i ≤ len) × (sums ≡ sumsOf (take i page) sums₀)
 
 abbrev μ-loop : tie.MeasureT-loop
-μ-loop page len first₀ second₀ i₀ first second i = len - i
+μ-loop page len sums₀ i₀ sums i = len - i
 
 loop-holds : tie.Need-loop-holds Inv-loop μ-loop
 unfolding sumsOf
 loop-holds c = (omega arith, refl)
 
 loop-again : tie.Need-loop-again Inv-loop μ-loop
-loop-again c = (
-  omega arith,
-  rw (c .wrapping-add-u642 .ensures, c .before .wrapping-add-u64 .ensures, c .before .before .wide .ensures .0, one-more (c .before .before .before .before .before .before .before .args .page .now) (c .before .before .before .before .before .loop .i) _ (omega arith), ← c .before .before .before .before .before .loop .inv .1),
-)
+loop-again c =
+    let l = c .before .before .before .before .loop in (
+      omega arith,
+      rw (c .with-number .ensures, c .before .wide .ensures .0, one-more (c .before .before .before .before .before .before .args .page .now) (l .i) _ (omega arith), ← l .inv .1),
+    )
 
 returns : tie.Need-returns Inv-loop μ-loop
 returns c = rw (end (c .before .loop .inv .0) (c .loop-test .left)) (c .before .loop .inv .1)
@@ -36,7 +36,6 @@ sums-over-spec =
     μ-loop
     loop-holds
     (λ c. search needs)
-    (λ c κs. search needs)
     (λ c κs. search needs)
     (λ c κs. search needs)
     (λ c. search needs)

@@ -1,12 +1,13 @@
 -- How the code is built, and need not be believed (proofs/Loop.antt ties it): what a stretch of a call's steps comes to, which the code takes as one piece.
 use Prim.Native.Nat.{ℕ, _+_, _<_, _≤_}
 use mathlib.Core.List.{List}
+use mathlib.Core.Option.{none}
 use mathlib.Core.Path.{_≡_}
 use Rattle.arithmetic.specs.declared.record.Lh5801.{Lh5801}
 use Rattle.arithmetic.specs.Record.{with-ir1, with-is-timer-reached}
 use Rattle.execution.specs.declared.Inputs.{Inputs}
 use Rattle.pages.specs.Pages.{Pages}
-use Rattle.pages.specs.Written.{Write}
+use Rattle.pages.specs.Prog.{Access}
 use Rattle.execution.specs.Step.{stopped}
 use Rattle.run.specs.declared.Ahead.{Ahead}
 use Rattle.run.specs.declared.Ahead.the-variants.{Open, Stops}
@@ -23,14 +24,14 @@ AheadIs inputs done limit steps m p Open = done < steps
 AheadIs inputs done limit steps m p (Stops s) = (steps < limit) × (oneStep inputs m p .answer ≡ stopped s)
 
 -- from the record m and the pages p, where so many steps of the call are done, completed steps lead to the record in r and to the pages q. How many
--- they are is left free: at least one or a stop comes, and with those done before they are at most the limit
+-- they are is left free: at least one or a stop comes, and with those done before they are at most the limit. No log is looked at
 pub record Leads (inputs : Inputs) (done limit : ℕ) (m : Lh5801) (p : Pages) (r : Led) (q : Pages) : Type 0 where
   pub more : ℕ
   pub steps : r .steps ≡ done + more
   pub within : r .steps ≤ limit
   pub states : ℕ
-  pub wrote : List Write
-  pub reached : Reaches inputs more m p (r .cpu) q states wrote
+  pub bus : List Access
+  pub reached : Reaches inputs none more m p (r .cpu) q states bus
   pub ahead : AheadIs inputs done limit (r .steps) (r .cpu) q (r .ahead)
 
 -- IR1 and timer reached as they were before

@@ -2,7 +2,7 @@
 -- noted before it; without one it is all of them.
 use Prim.Native.Nat.{ℕ, _+_, _-_, _*_, _<_, _≤_}
 use native.Mathlib.Omega.{arith}
-use mathlib.Core.Path.{_≡_, refl, sym, ap, _∙_}
+use mathlib.Core.Path.{_≡_, refl, sym, ap, subst, _∙_}
 use mathlib.Core.Bool.{true, false}
 use mathlib.Core.List.{List, [], _++_, append-nil}
 use mathlib.Core.Logic.{_⊎_, inl, inr}
@@ -168,6 +168,18 @@ module _ {inputs : Inputs} {limit : ℕ} {log : Log} {first : Lh5801} {from : Pa
         → LogAnswers call log entries now (loggedOf (answerOf (r .end) (steps + r .steps) (states + r .states) (r .cpu)) used) q
     last-round h = rw (a .answer, a .pages) (told (round-ends (run-ended until inputs none m p) (rw (← a .answer) h)) round-noted)
 
+    -- without a log every round is the last
+    pub only-round : log .lent ≡ false
+        → LogAnswers call log entries now (loggedOf (answerOf (r .end) (steps + r .steps) (states + r .states) (r .cpu)) used) q
+    only-round off = last-round (rw (a .answer) (go (g .way) (run-ended until inputs none m p)))
+      where
+        go : ((log .lent ≡ true) × (until ≡ 1)) ⊎ ((log .lent ≡ false) × (steps + until ≡ limit)) → Ended inputs until none part
+            → (part .answer .steps < until) ⊎ (limit ≤ steps + part .answer .steps)
+        go (inl w) e = absurd (let z : _≡_ {A = ℕ} 0 1 = cc in omega arith)
+        go (inr w) (all e h) = inr (omega arith)
+        go (inr w) (none-free e h f) = inl h
+        go (inr w) (early s e h x) = inl h
+
     -- or goes on after it: the log is looked at
     module _ (h : until ≤ r .steps) (l : steps + r .steps < limit) where
       went-on : (log .lent ≡ true) × (until ≡ 1) × (r .steps ≡ 1)
@@ -252,6 +264,13 @@ pub round-with : {inputs : Inputs} {limit : ℕ} {log : Log} {first : Lh5801} {f
     {now after : List ℕ} {used next until so : ℕ} → after ≡ now → next ≡ used → so ≡ until
     → Round inputs limit log first from entries steps states m p now used until → Round inputs limit log first from entries steps states m p after next so
 round-with e f h r = rw (e, f, h) r
+
+-- what is noted ahead of a record's step is noted ahead of an equal one's
+pub noted-by : (inputs : Inputs) (p : Pages) (now : List ℕ) (used : ℕ) {k m : Lh5801} {after : List ℕ} {next : ℕ} → k ≡ m
+    → (after ≡ noted now used (completedAccesses (oneStep inputs k p))) × (next ≡ used + length (completedAccesses (oneStep inputs k p)))
+    → (after ≡ noted now used (completedAccesses (oneStep inputs m p))) × (next ≡ used + length (completedAccesses (oneStep inputs m p)))
+noted-by inputs p now used {after = after} {next = next} e =
+    subst (λ (x : Lh5801). (after ≡ noted now used (completedAccesses (oneStep inputs x p))) × (next ≡ used + length (completedAccesses (oneStep inputs x p)))) e
 
 -- what the loop over rounds keeps, of the lent pages and the list of entries: they keep their lengths, and whatever the call's log and its entries were
 -- before the loop, from a first round the rounds go on to this one

@@ -7,6 +7,7 @@ use mathlib.Core.Path.{_≡_, refl, sym, ap, subst, _∙_}
 use Rattle.arithmetic.specs.declared.record.Lh5801.{Lh5801}
 use Rattle.execution.specs.declared.Inputs.{Inputs}
 use lib.ListN.{length}
+use Rattle.arithmetic.proofs.Status.{requested-same}
 use Rattle.pages.specs.Pages.{Pages, pages}
 use Rattle.pages.specs.Prog.{Access, mapped}
 use Rattle.pages.specs.Contract.{Does}
@@ -152,6 +153,11 @@ same-step inputs m due moved = ap (λ (k : Lh5801). stepOf k inputs) moved ∙ s
 moved-back : (m : Lh5801) → unmovedOf (reachedOf m) m ≡ m
 unfolding unmovedOf
 moved-back m = reached-back m
+
+-- where nothing has moved, nothing changes
+pub unmoved-same : (m : Lh5801) → unmovedOf m m ≡ m
+unfolding unmovedOf
+unmoved-same m = requested-same m
 
 module _ {inputs : Inputs} {done limit : ℕ} {m first : Lh5801} {from : Pages} (due : dueOf m ≡ true) (moved : first ≡ reachedOf m) where
   module _ {more steps : ℕ} {k : Lh5801} {p : Pages} (g : Going inputs limit first from more k p) (e : steps ≡ done + more) where

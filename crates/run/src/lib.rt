@@ -274,7 +274,8 @@ fn refused(cpu: Lh5801, end: End, used: usize) -> Logged
 }
 
 // The steps of a call that may have a log, round after round, up to the limit or to the first that stops. Without a log a round is all of them; with
-// one it is one step, and the log is looked at before it.
+// one it is one step, and the log is looked at before it. That look gets a record of its own (`seen`): handed on itself, the loop's would stand in
+// memory.
 fn steps_with_log(
     cpu: Lh5801,
     page0: &mut [u8],
@@ -293,7 +294,8 @@ fn steps_with_log(
     let mut used = log.used;
     let mut until = limit;
     if log.lent {
-        let coming = note_coming(cpu, page0, page1, entries, used);
+        let seen = unmoved(cpu, cpu);
+        let coming = note_coming(seen, page0, page1, entries, used);
         if coming.full {
             return refused(cpu, End::LogFull, used);
         }
@@ -306,13 +308,17 @@ fn steps_with_log(
         steps = steps + part.steps;
         states = states + part.states;
         let end = part.end;
+        if !log.lent {
+            return logged_answer(current, steps, states, end, used);
+        }
         if part.steps < until {
             return logged_answer(current, steps, states, end, used);
         }
         if limit <= steps {
             return logged_answer(current, steps, states, end, used);
         }
-        let coming = note_coming(current, page0, page1, entries, used);
+        let seen = unmoved(current, current);
+        let coming = note_coming(seen, page0, page1, entries, used);
         if coming.full {
             return logged_answer(current, steps, states, End::LogFull, used);
         }

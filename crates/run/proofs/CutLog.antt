@@ -22,7 +22,7 @@ use Rattle.run.specs.Acceptance.{Accepted}
 use Rattle.run.specs.BusLog.{freeIn, freeAfter, appended, usedAfter, Full}
 use Rattle.run.specs.Run.{CallResult, noStep, completed, oneStep, runOf, callOf, settings}
 use Rattle.run.specs.Demand.{sum, AtLeastOne}
-use Rattle.run.specs.CutLog.{Listed, listed, logAfter, logAfterAll, CutLog}
+use Rattle.run.specs.CutLog.{LogState, logState, logAfter, logAfterAll, CutLog}
 use Rattle.run.proofs.BusLog.{no-log-free, no-log-appended, no-log-used, appended-none, used-none, log-free, log-used, log-appended}
 use Rattle.run.proofs.Steps.{join, run-each, run-split}
 use Rattle.run.proofs.Acceptance.{limit-some, call-run, call-each}
@@ -103,49 +103,45 @@ call-unlogged s log entries m p off =
 -- ---- a run cut into calls
 
 -- the list and the count after accesses
-after : Listed → List Access → Listed
-after x l = listed (record { lent = x .log .lent; used = usedAfter (x .log) l }) (appended (x .log) (x .entries) l)
+left : LogState → List Access → LogState
+left x l = logState (record { lent = x .log .lent; used = usedAfter (x .log) l }) (appended (x .log) (x .entries) l)
 
-after-none : (x : Listed) → after x [] ≡ x
-unfolding after
-after-none x = rw (used-none (x .log), appended-none (x .log) (x .entries)) refl
-
-after-then : (x : Listed) (k l : List Access) → after (after x k) l ≡ after x (k ++ l)
-unfolding after appended usedAfter
-after-then x k l = go (x .log .lent) refl
+left-then : (x : LogState) (k l : List Access) → left (left x k) l ≡ left x (k ++ l)
+unfolding left appended usedAfter
+left-then x k l = go (x .log .lent) refl
   where
-    go : (b : Bool) → x .log .lent ≡ b → after (after x k) l ≡ after x (k ++ l)
+    go : (b : Bool) → x .log .lent ≡ b → left (left x k) l ≡ left x (k ++ l)
     go true on = rw (on, noted-append (x .entries) (x .log .used) k l, length-append k l, add-assoc) refl
     go false off = rw off refl
 
 -- the free entries of what is left are those that are left
-free-after : (x : Listed) (l : List Access) → freeIn (after x l .log) (after x l .entries) ≡ freeAfter (freeIn (x .log) (x .entries)) l
-unfolding after freeIn appended usedAfter
-free-after x l = go (x .log .lent) refl
+free-left : (x : LogState) (l : List Access) → freeIn (left x l .log) (left x l .entries) ≡ freeAfter (freeIn (x .log) (x .entries)) l
+unfolding left freeIn appended usedAfter
+free-left x l = go (x .log .lent) refl
   where
-    go : (b : Bool) → x .log .lent ≡ b → freeIn (after x l .log) (after x l .entries) ≡ freeAfter (freeIn (x .log) (x .entries)) l
+    go : (b : Bool) → x .log .lent ≡ b → freeIn (left x l .log) (left x l .entries) ≡ freeAfter (freeIn (x .log) (x .entries)) l
     go true on = rw (on, noted-length (x .entries) (x .log .used) l) (ap some (omega arith))
     go false off = rw off refl
 
 -- the calls of a list leave what one run with the sum of their limits leaves
-cut : (l : ℕ) (ls : List ℕ) (inputs : Inputs) (x : Listed) (m : Lh5801) (p : Pages)
+cut : (l : ℕ) (ls : List ℕ) (inputs : Inputs) (x : LogState) (m : Lh5801) (p : Pages)
     → Accepted (settings inputs (l + sum ls)) m p → 1 ≤ l → AtLeastOne ls
-    → logAfterAll (l ∷ ls) inputs x m p ≡ after x (runOf (l + sum ls) inputs (freeIn (x .log) (x .entries)) m p .bus)
-unfolding sum AtLeastOne logAfterAll logAfter after join
+    → logAfterAll (l ∷ ls) inputs x m p ≡ left x (runOf (l + sum ls) inputs (freeIn (x .log) (x .entries)) m p .bus)
+unfolding sum AtLeastOne logAfterAll logAfter left join
 cut l [] inputs x m p h i is = rw (call-run (settings inputs l) (freeIn (x .log) (x .entries)) m p (first-accepted l 0 inputs h i), add-zero) refl
 cut l (k ∷ ks) inputs x m p h i is =
     let free : Option ℕ = freeIn (x .log) (x .entries) in
     let o : CallResult = runOf l inputs free m p in
     let rest : CallResult = runOf (k + sum ks) inputs (freeAfter free (o .bus)) (o .answer .cpu) (o .pages) in
-    let y : Listed = after x (o .bus) in
+    let y : LogState = left x (o .bus) in
     rw (call-run (settings inputs l) free m p (first-accepted l (k + sum ks) inputs h i))
     (cut k ks inputs y (o .answer .cpu) (o .pages) (rest-accepted l (k + sum ks) inputs free h (omega (arith, is .0))) (is .0) (is .1)
-    ∙ ap (λ (f : Option ℕ). after y (runOf (k + sum ks) inputs f (o .answer .cpu) (o .pages) .bus)) (free-after x (o .bus))
-    ∙ after-then x (o .bus) (rest .bus)
-    ∙ ap (λ (r : CallResult). after x (r .bus)) (run-split l (k + sum ks) inputs free m p (omega (arith, is .0))))
+    ∙ ap (λ (f : Option ℕ). left y (runOf (k + sum ks) inputs f (o .answer .cpu) (o .pages) .bus)) (free-left x (o .bus))
+    ∙ left-then x (o .bus) (rest .bus)
+    ∙ ap (λ (r : CallResult). left x (r .bus)) (run-split l (k + sum ks) inputs free m p (omega (arith, is .0))))
 
 pub cut-log : CutLog
-unfolding CutLog sum AtLeastOne logAfter after
+unfolding CutLog sum AtLeastOne logAfter left
 cut-log s x m p h [] is e = absurd (omega (arith, limit-some h))
 cut-log s x m p h (k ∷ ks) is e =
     cut k ks (s .inputs) x m p (rw e h) (is .0) (is .1)

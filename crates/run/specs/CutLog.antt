@@ -13,21 +13,21 @@ use Rattle.run.specs.Run.{callOf, settings}
 use Rattle.run.specs.Demand.{sum, AtLeastOne}
 
 -- a list of entries, and whether it is lent as a log and how many of its entries are used
-pub record Listed : Type 0 where
+pub record LogState : Type 0 where
   pub log : Log
   pub entries : List ℕ
 
-abbrev pub listed : Log → List ℕ → Listed
-listed log entries = record { log = log; entries = entries }
+abbrev pub logState : Log → List ℕ → LogState
+logState log entries = record { log = log; entries = entries }
 
 -- the list and the count that a call leaves
-unfoldable pub logAfter : Settings → Listed → Lh5801 → Pages → Listed
+unfoldable pub logAfter : Settings → LogState → Lh5801 → Pages → LogState
 logAfter s x m p =
     let l = callOf s (freeIn (x .log) (x .entries)) m p .bus in
-    listed (record { lent = x .log .lent; used = usedAfter (x .log) l }) (appended (x .log) (x .entries) l)
+    logState (record { lent = x .log .lent; used = usedAfter (x .log) l }) (appended (x .log) (x .entries) l)
 
 -- those that calls with these limits leave: each gets the same inputs, and the record, the pages, the list and the count that the call before left
-unfoldable pub logAfterAll : List ℕ → Inputs → Listed → Lh5801 → Pages → Listed
+unfoldable pub logAfterAll : List ℕ → Inputs → LogState → Lh5801 → Pages → LogState
 logAfterAll [] inputs x m p = x
 logAfterAll (limit ∷ limits) inputs x m p =
     let o = callOf (settings inputs limit) (freeIn (x .log) (x .entries)) m p in
@@ -37,7 +37,7 @@ logAfterAll (limit ∷ limits) inputs x m p =
 -- or not. "Provided the list never fills" is not needed
 unfoldable pub CutLog : Type 0
 CutLog =
-    (s : Settings) (x : Listed) (m : Lh5801) (p : Pages)
+    (s : Settings) (x : LogState) (m : Lh5801) (p : Pages)
     → Accepted s m p
     → (limits : List ℕ)
     → AtLeastOne limits

@@ -1,4 +1,5 @@
 // Flags and arithmetic of the LH5801.
+#![tactic(auto)]
 ghost use Rattle.std.specs.Prelude.{◌≡◌, ◌≤◌};
 ghost use Rattle.arithmetic.specs.Flags.{bit_of, has_flag, set_flag, check_z, with_bits, with_flags};
 ghost use Rattle.arithmetic.specs.Sums.{overflow_of, add_of, with_sum, adc_of, sbc_of, cpa_of, inc_of, dec_of, adr_of};
@@ -21,28 +22,28 @@ pub const VF: u8 = 0x08;
 pub const HF: u8 = 0x10;
 
 // A result byte with the T that goes with it.
-#[derive(Drop)]
+#[derive(Clone, Copy)]
 pub struct Sum {
     pub value: u8,
     pub t: u8,
 }
 
 // The same with a result of 16 bits.
-#[derive(Drop)]
+#[derive(Clone, Copy)]
 pub struct WideSum {
     pub value: u16,
     pub t: u8,
 }
 
 // A and the memory byte after a move of digits.
-#[derive(Drop)]
+#[derive(Clone, Copy)]
 pub struct Moved {
     pub a: u8,
     pub byte: u8,
 }
 
 // U after LOP has counted UL down, and whether it branches.
-#[derive(Drop)]
+#[derive(Clone, Copy)]
 pub struct Looped {
     pub u: u16,
     pub again: bool,

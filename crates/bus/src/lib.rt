@@ -1,10 +1,11 @@
 // The accesses of the coming step as entries of a log (document 02, F-2), computed from the record and the pages before the step. Nothing
 // here is called where no log is lent. The entries go into a lent log from a place on; what would go past its end is dropped, and the
 // caller sees to it that seven entries are free.
+#![tactic(auto)]
 ghost use Rattle.std.specs.Prelude.{◌≡◌, ◌+◌, ◌<◌, ◌≤◌, [], ◌∷◌, set, slice_set};
 ghost use Rattle.pages.specs.Pages.{at as byte_at, stored};
 ghost use Rattle.pages.specs.Prog.{read_of, write_of};
-ghost use Rattle.pages.specs.Contract.{at_entry};
+ghost use Rattle.pages.specs.Contract.{as_shared};
 ghost use Rattle.pages.specs.Stack.{up16, down16};
 ghost use Rattle.execution.specs.Code.Shapes.{opcode_at, bytes_from, code_word_at, push_word_accesses, after_write, after_push_word, push_and_vector_accesses, vector_accesses, accept_accesses, register_by, paged_by, changed_by, rotated_by, change_accesses, test_accesses, rotate_accesses, accesses_at, place_accesses, flag_by, holds_by, vector_if_accesses, tin_accesses, sjp_accesses, push_or_tin_accesses, shape_accesses, shape_by, opcode_accesses, instruction_accesses, powered_accesses};
 ghost use Rattle.bus.specs.Code.Notes.{most, Notes, NotesTo, NotesStep};
@@ -80,13 +81,13 @@ fn note_write(log: &mut [u32], at: usize, addr: u32, v: u8)
 
 // The byte that an address reads before the step.
 fn byte_at(page0: &[u8], page1: &[u8], addr: u32) -> u8
-    ensures { result ≡ byte_at (at_entry page0 page1) addr }
+    ensures { result ≡ byte_at (as_shared page0 page1) addr }
 {
     pages::read_byte(page0, page1, addr)
 }
 
 fn read_and_note(page0: &[u8], page1: &[u8], log: &mut [u32], at: usize, addr: u32) -> u8
-    ensures { Notes (read_of addr (byte_at (at_entry page0 page1) addr) ∷ []) log at × (result ≡ byte_at (at_entry page0 page1) addr) }
+    ensures { Notes (read_of addr (byte_at (as_shared page0 page1) addr) ∷ []) log at × (result ≡ byte_at (as_shared page0 page1) addr) }
 {
     let b = byte_at(page0, page1, addr);
     note_read(log, at, addr, b);
@@ -96,7 +97,7 @@ fn read_and_note(page0: &[u8], page1: &[u8], log: &mut [u32], at: usize, addr: u
 // At most three bytes, one after the other.
 fn note_bytes(page0: &[u8], page1: &[u8], log: &mut [u32], at: usize, from: u16, k: u8) -> usize
     requires { (at ≤ most + 4) × (k ≤ 3) }
-    ensures { NotesTo (bytes_from (at_entry page0 page1) from k) log at result }
+    ensures { NotesTo (bytes_from (as_shared page0 page1) from k) log at result }
 {
     if k == 0 {
         return at;
@@ -119,7 +120,7 @@ fn note_bytes(page0: &[u8], page1: &[u8], log: &mut [u32], at: usize, from: u16,
 
 // The word in the code, high byte first.
 fn code_word(page0: &[u8], page1: &[u8], p: u16) -> u16
-    ensures { result ≡ code_word_at (at_entry page0 page1) p }
+    ensures { result ≡ code_word_at (as_shared page0 page1) p }
 {
     let high = byte_at(page0, page1, p as u32);
     let next = up(p);
@@ -139,7 +140,7 @@ fn note_push_word(log: &mut [u32], at: usize, s: u16, w: u16)
 
 // Is a write at this address stored?
 fn is_stored(page0: &[u8], page1: &[u8], addr: u32) -> bool
-    ensures { result ≡ stored (at_entry page0 page1) addr }
+    ensures { result ≡ stored (as_shared page0 page1) addr }
 {
     if addr < 65536 {
         (addr as usize) < page0.len()
@@ -150,7 +151,7 @@ fn is_stored(page0: &[u8], page1: &[u8], addr: u32) -> bool
 
 // What an address reads after v was written at s, where it read b before.
 fn after_write(page0: &[u8], page1: &[u8], s: u16, v: u8, addr: u32, b: u8) -> u8
-    ensures { result ≡ after_write (at_entry page0 page1) s v addr b }
+    ensures { result ≡ after_write (as_shared page0 page1) s v addr b }
 {
     if addr == s as u32 {
         if is_stored(page0, page1, s as u32) {
@@ -165,7 +166,7 @@ fn after_write(page0: &[u8], page1: &[u8], s: u16, v: u8, addr: u32, b: u8) -> u
 
 // What it reads after the word w was pushed, where S was s.
 fn after_push_word(page0: &[u8], page1: &[u8], s: u16, w: u16, addr: u32, b: u8) -> u8
-    ensures { result ≡ after_push_word (at_entry page0 page1) s w addr b }
+    ensures { result ≡ after_push_word (as_shared page0 page1) s w addr b }
 {
     let first = after_write(page0, page1, s, (w % 256) as u8, addr, b);
     let next = down(s);
@@ -185,7 +186,7 @@ fn note_push_and_vector(
     low: u8,
 ) -> usize
     requires { (at ≤ most + 3) × (addr ≤ 65535) }
-    ensures { NotesTo (push_and_vector_accesses (at_entry page0 page1) s w addr high low) log at result }
+    ensures { NotesTo (push_and_vector_accesses (as_shared page0 page1) s w addr high low) log at result }
 {
     note_push_word(log, at, s, w);
     let first = after_push_word(page0, page1, s, w, addr, high);
@@ -209,7 +210,7 @@ fn note_vector(
     nr: u8,
 ) -> usize
     requires { at ≤ most + 3 }
-    ensures { NotesTo (vector_accesses (at_entry page0 page1) s w nr) log at result }
+    ensures { NotesTo (vector_accesses (as_shared page0 page1) s w nr) log at result }
 {
     let addr = 0xff00 + nr as u32;
     let high = byte_at(page0, page1, addr);
@@ -273,7 +274,7 @@ fn note_change(
     p: u16,
 ) -> usize
     requires { at ≤ most + 4 }
-    ensures { NotesTo (change_accesses (at_entry page0 page1) n addr p) log at result }
+    ensures { NotesTo (change_accesses (as_shared page0 page1) n addr p) log at result }
 {
     let v = read_and_note(page0, page1, log, at, p as u32);
     let at2 = at + 1;
@@ -286,7 +287,7 @@ fn note_change(
 // BII: the memory byte, the immediate.
 fn note_test(page0: &[u8], page1: &[u8], log: &mut [u32], at: usize, addr: u32, p: u16) -> usize
     requires { at ≤ most + 4 }
-    ensures { NotesTo (test_accesses (at_entry page0 page1) addr p) log at result }
+    ensures { NotesTo (test_accesses (as_shared page0 page1) addr p) log at result }
 {
     read_and_note(page0, page1, log, at, addr);
     let at2 = at + 1;
@@ -305,7 +306,7 @@ fn note_rotate(
     a: u8,
 ) -> usize
     requires { at ≤ most + 4 }
-    ensures { NotesTo (rotate_accesses (at_entry page0 page1) n addr a) log at result }
+    ensures { NotesTo (rotate_accesses (as_shared page0 page1) n addr a) log at result }
 {
     let b = read_and_note(page0, page1, log, at, addr);
     let at2 = at + 1;
@@ -325,7 +326,7 @@ fn note_at(
     p: u16,
 ) -> usize
     requires { at ≤ most + 4 }
-    ensures { NotesTo (accesses_at cpu (at_entry page0 page1) n addr p) log at result }
+    ensures { NotesTo (accesses_at cpu (as_shared page0 page1) n addr p) log at result }
 {
     if n == 0 {
         read_and_note(page0, page1, log, at, addr);
@@ -347,7 +348,7 @@ fn note_at(
 // At the word in the code, or where a register points.
 fn note_place(cpu: Lh5801, page0: &[u8], page1: &[u8], log: &mut [u32], at: usize, n: u8) -> usize
     requires { at ≤ most + 2 }
-    ensures { NotesTo (place_accesses cpu (at_entry page0 page1) n) log at result }
+    ensures { NotesTo (place_accesses cpu (as_shared page0 page1) n) log at result }
 {
     let p = cpu.p;
     if n % 4 == 3 {
@@ -400,7 +401,7 @@ fn note_vector_if(
     c: u8,
 ) -> usize
     requires { at ≤ most + 2 }
-    ensures { NotesTo (vector_if_accesses cpu (at_entry page0 page1) c) log at result }
+    ensures { NotesTo (vector_if_accesses cpu (as_shared page0 page1) c) log at result }
 {
     let p = cpu.p;
     let nr = read_and_note(page0, page1, log, at, p as u32);
@@ -416,7 +417,7 @@ fn note_vector_if(
 // TIN: the byte at X, written at Y.
 fn note_tin(cpu: Lh5801, page0: &[u8], page1: &[u8], log: &mut [u32], at: usize) -> usize
     requires { at ≤ most + 2 }
-    ensures { NotesTo (tin_accesses cpu (at_entry page0 page1)) log at result }
+    ensures { NotesTo (tin_accesses cpu (as_shared page0 page1)) log at result }
 {
     let b = read_and_note(page0, page1, log, at, cpu.x as u32);
     let at2 = at + 1;
@@ -427,7 +428,7 @@ fn note_tin(cpu: Lh5801, page0: &[u8], page1: &[u8], log: &mut [u32], at: usize)
 // SJP: the word in the code, and the address after it pushed.
 fn note_sjp(cpu: Lh5801, page0: &[u8], page1: &[u8], log: &mut [u32], at: usize) -> usize
     requires { at ≤ most + 2 }
-    ensures { NotesTo (sjp_accesses cpu (at_entry page0 page1)) log at result }
+    ensures { NotesTo (sjp_accesses cpu (as_shared page0 page1)) log at result }
 {
     let p = cpu.p;
     let next = note_bytes(page0, page1, log, at, p, 2);
@@ -448,7 +449,7 @@ fn note_push_or_tin(
     n: u8,
 ) -> usize
     requires { at ≤ most + 2 }
-    ensures { NotesTo (push_or_tin_accesses cpu (at_entry page0 page1) opcode n) log at result }
+    ensures { NotesTo (push_or_tin_accesses cpu (as_shared page0 page1) opcode n) log at result }
 {
     if n == 72 {
         note_write(log, at, cpu.s as u32, cpu.a);
@@ -478,7 +479,7 @@ fn note_shape(
     n: u8,
 ) -> usize
     requires { at ≤ most + 2 }
-    ensures { NotesTo (shape_accesses cpu (at_entry page0 page1) opcode n) log at result }
+    ensures { NotesTo (shape_accesses cpu (as_shared page0 page1) opcode n) log at result }
 {
     if n < 64 {
         return note_place(cpu, page0, page1, log, at, n);
@@ -508,7 +509,7 @@ fn shape(fd: bool, opcode: u8) -> u8
 
 // The byte that names the instruction at p, after FD or not, and the address after it.
 fn opcode_at(page0: &[u8], page1: &[u8], p: u16) -> Fetched
-    ensures { result ≡ opcode_at (at_entry page0 page1) p }
+    ensures { result ≡ opcode_at (as_shared page0 page1) p }
 {
     let first = byte_at(page0, page1, p as u32);
     let next = up(p);
@@ -532,7 +533,7 @@ fn opcode_at(page0: &[u8], page1: &[u8], p: u16) -> Fetched
 // The opcode's own bytes.
 fn note_opcode(page0: &[u8], page1: &[u8], log: &mut [u32], at: usize, p: u16, fd: bool) -> usize
     requires { at ≤ most }
-    ensures { NotesTo (opcode_accesses (at_entry page0 page1) p fd) log at result × (result ≤ at + 2) }
+    ensures { NotesTo (opcode_accesses (as_shared page0 page1) p fd) log at result × (result ≤ at + 2) }
 {
     if fd {
         note_bytes(page0, page1, log, at, p, 2)
@@ -544,7 +545,7 @@ fn note_opcode(page0: &[u8], page1: &[u8], log: &mut [u32], at: usize, p: u16, f
 // The instruction at P; nothing where it is unlisted.
 fn note_instruction(cpu: Lh5801, page0: &[u8], page1: &[u8], log: &mut [u32], at: usize) -> usize
     requires { at ≤ most }
-    ensures { NotesTo (instruction_accesses cpu (at_entry page0 page1)) log at result }
+    ensures { NotesTo (instruction_accesses cpu (as_shared page0 page1)) log at result }
 {
     let o = opcode_at(page0, page1, cpu.p);
     let n = shape(o.fd, o.byte);
@@ -565,7 +566,7 @@ fn note_accept(
     vector: u16,
 ) -> usize
     requires { at ≤ most }
-    ensures { NotesTo (accept_accesses cpu (at_entry page0 page1) vector) log at result }
+    ensures { NotesTo (accept_accesses cpu (as_shared page0 page1) vector) log at result }
 {
     let addr = vector as u32;
     note_write(log, at, cpu.s as u32, cpu.t);
@@ -587,7 +588,7 @@ fn note_powered(
     first: bool,
 ) -> usize
     requires { at ≤ most }
-    ensures { NotesTo (powered_accesses cpu (at_entry page0 page1) first) log at result }
+    ensures { NotesTo (powered_accesses cpu (as_shared page0 page1) first) log at result }
 {
     if cpu.ir0 {
         return at;

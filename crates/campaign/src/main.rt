@@ -1,4 +1,5 @@
 // Reads a campaign file from standard input, and prints document 01's line.
+#![tactic(auto)]
 use libc::{STDIN_FILENO, STDOUT_FILENO};
 
 fn main() {

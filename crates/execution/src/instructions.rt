@@ -2,7 +2,7 @@
 use crate::places::{Half, Page, Place, Register};
 
 // What is done with A and an operand.
-#[derive(Drop)]
+#[derive(Clone, Copy)]
 pub enum Operation {
     Sbc,
     Adc,
@@ -17,7 +17,7 @@ pub enum Operation {
 }
 
 // What is done to a byte in memory with a byte in the code.
-#[derive(Drop)]
+#[derive(Clone, Copy)]
 pub enum Change {
     Ani,
     Ori,
@@ -25,7 +25,7 @@ pub enum Change {
 }
 
 // What a branch or a vector asks of the flags.
-#[derive(Drop)]
+#[derive(Clone, Copy)]
 pub enum Condition {
     NoCarry,
     Carry,
@@ -39,7 +39,7 @@ pub enum Condition {
 }
 
 // The word that X is copied to or set from.
-#[derive(Drop)]
+#[derive(Clone, Copy)]
 pub enum Word {
     Of(Register),
     S,
@@ -48,7 +48,7 @@ pub enum Word {
 
 // What has no operand but A. Tta and Att are T to A and A to T, Ita is the input port to A, and Am0 and
 // Am1 are A to the timer, with its bit 8 clear and set.
-#[derive(Drop)]
+#[derive(Clone, Copy)]
 pub enum Accumulator {
     IncA,
     DecA,
@@ -65,7 +65,7 @@ pub enum Accumulator {
 }
 
 // What is set or cleared.
-#[derive(Drop)]
+#[derive(Clone, Copy)]
 pub enum Signal {
     Pu,
     Pv,
@@ -77,7 +77,7 @@ pub enum Signal {
 // An instruction holds its operand place as a case inside its own case. The truth value of a branch
 // says that it goes forward, that of a signal says that it is set, and the number of Vector is that of
 // the vector, which VectorIf reads in the code.
-#[derive(Drop)]
+#[derive(Clone, Copy)]
 pub enum Instruction {
     Alu(Operation, Place),
     Sta(Place),
@@ -124,7 +124,7 @@ pub enum Instruction {
 
 // An instruction with its states (document 01's term), without those that a taken branch or vector
 // adds; or an unlisted byte.
-#[derive(Drop)]
+#[derive(Clone, Copy)]
 pub enum Decoded {
     Listed(Instruction, u8),
     Unlisted,

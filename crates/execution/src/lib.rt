@@ -1,4 +1,5 @@
 // Decoding and execution of one instruction, and one step.
+#![tactic(auto)]
 ghost use Rattle.std.specs.Prelude.{◌≡◌, ◌<◌, true, false, if◌then◌else◌};
 ghost use Rattle.arithmetic.specs.Record.{with_ir1, with_ir2};
 ghost use Rattle.pages.specs.Prog.{mapped};
@@ -22,7 +23,7 @@ pub mod places;
 pub mod transfers;
 
 // What a step is given besides the record and the pages.
-#[derive(Drop)]
+#[derive(Clone, Copy)]
 pub struct Inputs {
     pub keyboard: u8,
     // Document 02, F-1: how many states a halted step waits; with 0 it stops.
@@ -42,7 +43,7 @@ impl Inputs {
 }
 
 // Why a step stops: document 01's 5 and 6 with the byte, and 7.
-#[derive(Drop)]
+#[derive(Clone, Copy)]
 pub enum Stop {
     UnlistedFirst(u8),
     UnlistedFd(u8),
@@ -50,7 +51,7 @@ pub enum Stop {
 }
 
 // The byte that names an instruction, after FD or not, and P after it.
-#[derive(Drop)]
+#[derive(Clone, Copy)]
 pub struct Fetched {
     pub fd: bool,
     pub byte: u8,
@@ -58,7 +59,7 @@ pub struct Fetched {
 }
 
 // How the step of an instruction ends: completed, with an instruction due again or not, or with a stop.
-#[derive(Drop)]
+#[derive(Clone, Copy)]
 pub enum Executed {
     Again(Lh5801),
     Completed(Lh5801),
@@ -66,7 +67,7 @@ pub enum Executed {
 }
 
 // A completed step with the record after it, or a stop.
-#[derive(Drop)]
+#[derive(Clone, Copy)]
 pub enum Outcome {
     Completed(Lh5801),
     Stopped(Stop),

@@ -7,7 +7,7 @@ ghost use Rattle.execution.specs.Code.Operands.{chosen, register_of, register_at
 use arithmetic::record::Lh5801;
 use pages::CodeByte;
 
-#[derive(Drop)]
+#[derive(Clone, Copy)]
 pub enum Register {
     X,
     Y,
@@ -16,7 +16,7 @@ pub enum Register {
 
 // A half of a register. Missing stands for the register that rows 3 and 7 name and the LH5801 does
 // not have: it reads 0, and what is put there is lost.
-#[derive(Drop)]
+#[derive(Clone, Copy)]
 pub enum Half {
     High(Register),
     Low(Register),
@@ -24,7 +24,7 @@ pub enum Half {
 }
 
 // Page 0 is addressed 0 to FFFF, page 1 is 10000 to 1FFFF.
-#[derive(Drop)]
+#[derive(Clone, Copy)]
 pub enum Page {
     Me0,
     Me1,
@@ -32,7 +32,7 @@ pub enum Page {
 
 // Where an operand lies: in a half of a register, in memory where a register points, in memory at
 // the word in the code, or in the code itself.
-#[derive(Drop)]
+#[derive(Clone, Copy)]
 pub enum Place {
     InHalf(Half),
     Pointer(Page, Register),
@@ -41,7 +41,7 @@ pub enum Place {
 }
 
 // An address, and P after it was found.
-#[derive(Drop)]
+#[derive(Clone, Copy)]
 pub struct Located {
     pub addr: u32,
     pub p: u16,

@@ -1,4 +1,5 @@
 // Pages, stack and timer of the LH5801.
+#![tactic(auto)]
 ghost use Rattle.std.specs.Prelude.{◌≡◌, ◌<◌, set, slice_index_or, slice_set};
 ghost use Rattle.pages.specs.Prog.{read, write};
 ghost use Rattle.pages.specs.Contract.{Changes, Reads};
@@ -8,21 +9,21 @@ ghost use Rattle.pages.specs.Timer.{add_state_of, timer_inc_of, passed_of, timer
 use arithmetic::record::Lh5801;
 
 // A byte of the code, and the place after it.
-#[derive(Drop)]
+#[derive(Clone, Copy)]
 pub struct CodeByte {
     pub value: u8,
     pub p: u16,
 }
 
 // A word of the code, and the place after it.
-#[derive(Drop)]
+#[derive(Clone, Copy)]
 pub struct CodeWord {
     pub value: u16,
     pub p: u16,
 }
 
 // A word from the stack, and S after it.
-#[derive(Drop)]
+#[derive(Clone, Copy)]
 pub struct Popped {
     pub value: u16,
     pub s: u16,

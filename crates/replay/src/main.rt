@@ -12,6 +12,7 @@
 // all entries of the list, then the used count. The pages lent are as long as the item says: the fill rule, then the campaign file's bytes at their start,
 // then the bytes that are set. So pages can be longer than a campaign file holds. The list has 64 entries, each FFFFFFFF before the call, also where no
 // log is lent; the used count is then 0.
+#![tactic(auto)]
 ghost use Rattle.std.specs.Prelude.{◌≡◌, ◌+◌, ◌≤◌, length, take};
 ghost use Rattle.run.specs.Parts.{RunParts};
 ghost use Rattle.replay.specs.Numbers.{two_of, four_of, eight_of, end_of, with_number, sums_of, sums_page_of, sums_after_of, sums_differ_of, either_of, both_of, next_byte_of};
@@ -24,21 +25,21 @@ use run::campaign_file::{Campaign, Parsed, Refusal};
 use run::{Log, Logged, Settings, campaign_file, line, parts, report};
 
 // Two running sums over numbers: each number is added to the first, and then the first to the second, modulo 2^64.
-#[derive(Drop)]
+#[derive(Clone, Copy)]
 struct Sums {
     first: u64,
     second: u64,
 }
 
 // The fill rule's two bytes.
-#[derive(Drop)]
+#[derive(Clone, Copy)]
 struct Rule {
     first: u8,
     step: u8,
 }
 
 // What an item lends its call: pages of two lengths, made by the fill rule, and a log.
-#[derive(Drop)]
+#[derive(Clone, Copy)]
 struct Lent {
     len0: usize,
     len1: usize,
@@ -47,7 +48,7 @@ struct Lent {
 }
 
 // How many calls were replayed, and how many of them answered something else than the list.
-#[derive(Drop)]
+#[derive(Clone, Copy)]
 struct Tally {
     calls: u64,
     differ: u64,
@@ -442,7 +443,7 @@ fn item_differs(bytes: &[u8], at: usize, end: usize) -> u64
 }
 
 // What is found at a place of the list: where the next item begins, and 1 where the call differs.
-#[derive(Drop)]
+#[derive(Clone, Copy)]
 struct Found {
     end: usize,
     differs: u64,

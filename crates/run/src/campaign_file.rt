@@ -27,13 +27,13 @@ const GREATEST: [u64; 14] = [
 ];
 
 // A place of the file.
-#[derive(Drop)]
+#[derive(Clone, Copy)]
 pub struct Cursor {
     pub at: usize,
 }
 
 // Why a file is turned down, each with the offset that document 01 names.
-#[derive(Drop)]
+#[derive(Clone, Copy)]
 pub enum Refusal {
     // 8: the bytes end before or inside a number or page, which begins here
     Ends(usize),
@@ -44,42 +44,42 @@ pub enum Refusal {
 }
 
 // A number with the place after it, or why the file is turned down.
-#[derive(Drop)]
+#[derive(Clone, Copy)]
 pub enum Number {
     Read(u64, Cursor),
     Refused(Refusal),
 }
 
 // The place after the fourteen numbers, or why the file is turned down.
-#[derive(Drop)]
+#[derive(Clone, Copy)]
 pub enum NumbersRead {
     Read(Cursor),
     Refused(Refusal),
 }
 
 // What the file asks of the call: its keyboard byte and its limit.
-#[derive(Drop)]
+#[derive(Clone, Copy)]
 pub struct Asked {
     pub keyboard: u8,
     pub limit: u32,
 }
 
 // Where a page's bytes begin in the file, and how many they are.
-#[derive(Drop)]
+#[derive(Clone, Copy)]
 pub struct PagePlace {
     pub at: usize,
     pub len: usize,
 }
 
 // A page with the place after it, or why the file is turned down.
-#[derive(Drop)]
+#[derive(Clone, Copy)]
 pub enum PageRead {
     Read(PagePlace, Cursor),
     Refused(Refusal),
 }
 
 // What a campaign file says: the record, what is asked of the call, and where the two pages' bytes lie in the file.
-#[derive(Drop)]
+#[derive(Clone, Copy)]
 pub struct Parsed {
     pub cpu: Lh5801,
     pub asked: Asked,
@@ -89,7 +89,7 @@ pub struct Parsed {
     pub page1_len: usize,
 }
 
-#[derive(Drop)]
+#[derive(Clone, Copy)]
 pub enum Campaign {
     Read(Parsed),
     Refused(Refusal),

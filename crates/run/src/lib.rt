@@ -1,4 +1,5 @@
 // The run call.
+#![tactic(auto)]
 ghost use Rattle.std.specs.Prelude.{◌≡◌, ◌-◌, ◌<◌, ◌≤◌, true, false};
 ghost use Rattle.std.proofs.Math.Option.{none, some};
 ghost use Rattle.pages.specs.Contract.{at_entry, at_exit};
@@ -22,21 +23,21 @@ pub mod record_numbers;
 pub mod report;
 
 // What a call is given besides the record and the pages.
-#[derive(Drop)]
+#[derive(Clone, Copy)]
 pub struct Settings {
     pub inputs: Inputs,
     pub limit: u32,
 }
 
 // Document 02, F-2: is the list of entries that a call gets lent as a log, and how many of them are used?
-#[derive(Drop)]
+#[derive(Clone, Copy)]
 pub struct Log {
     pub lent: bool,
     pub used: usize,
 }
 
 // Why a call ended: all its steps done, not accepted, the log full before a step, or a step's stop.
-#[derive(Drop)]
+#[derive(Clone, Copy)]
 pub enum End {
     AllSteps,
     Page0Length,
@@ -48,7 +49,7 @@ pub enum End {
 }
 
 // What a call returns.
-#[derive(Drop)]
+#[derive(Clone, Copy)]
 pub struct Answer {
     pub end: End,
     pub steps: u32,
@@ -57,7 +58,7 @@ pub struct Answer {
 }
 
 // What a call with a list of entries returns: its answer, and how many entries are used after it.
-#[derive(Drop)]
+#[derive(Clone, Copy)]
 pub struct Logged {
     pub answer: Answer,
     pub used: usize,
@@ -77,14 +78,14 @@ fn answered(cpu: Lh5801, first: u64, steps: u32, end: End) -> Answer
 }
 
 // What comes after completed steps: any step, or one that stops.
-#[derive(Drop)]
+#[derive(Clone, Copy)]
 pub enum Ahead {
     Open,
     Stops(execution::Stop),
 }
 
 // What a stretch of steps led to: how many of the call are now completed, the record after them, and what comes next.
-#[derive(Drop)]
+#[derive(Clone, Copy)]
 pub struct Led {
     pub steps: u32,
     pub cpu: Lh5801,
@@ -231,7 +232,7 @@ fn log_full(length: usize, used: usize) -> bool
 }
 
 // What is seen of the log before a step: that it is full, or how many entries are used with the coming step's.
-#[derive(Drop)]
+#[derive(Clone, Copy)]
 struct Coming {
     full: bool,
     used: usize,

@@ -1,0 +1,18 @@
+use Rattle.pages.proofs.Does.{does_then, does_done}
+use Rattle.std.proofs.Common.{sym, ◌∙◌}
+use Rattle.execution.specs.Instructions.{vector_if_of}
+use Rattle.execution.proofs.flow.vector_if.Goals as goal
+
+pub returns-then-holds : goal.returns-then-holds
+unfolding vector_if_of
+returns-then-holds c =
+    let tested = c in
+    does_then _ tested.cpu_readop-f.ensures
+    (rw (sym tested.holds.ensures ∙ tested.if-holds.true)
+    (rw tested.with_p-next.ensures at c.vector.ensures))
+
+pub returns-else-holds : goal.returns-else-holds
+unfolding vector_if_of
+returns-else-holds c =
+    does_then _ c.cpu_readop-f.ensures
+    (rw (sym c.holds.ensures ∙ c.if-holds.false) (does_done c.with_p-next.ensures))

@@ -1,0 +1,45 @@
+use Rattle.std.proofs.Common.{◌≡◌, ℕ, ◌<◌, sym, refl, ◌∙◌}
+use Rattle.arithmetic.specs.declared.record.Lh5801.{Lh5801}
+use Rattle.pages.specs.Timer.{add_state_of}
+use Rattle.execution.proofs.Order.{instruction_listed, instruction_unlisted}
+use Rattle.execution.proofs.DueAgain.{again, executed_small}
+use Rattle.execution.proofs.instruction.Goals as goal
+
+pub returns-then-k : goal.returns-then-k
+returns-then-k c =
+    let ready = c.requires.1 in
+    let listed = sym c.decode.ensures ∙ c.in-Listed.is in
+    let executed = rw c.with_p.ensures at c.execute-next.ensures in
+    let settled = sym c.settled.ensures ∙ c.if-settled.true in
+    (instruction_listed _ _ ready c.fetch-o.ensures listed executed c.add_state.ensures c.timer_part-k.ensures settled c.if-k.true, tt)
+
+pub returns-else-k : goal.returns-else-k
+returns-else-k c =
+    let ready = c.requires.1 in
+    let listed = sym c.decode.ensures ∙ c.in-Listed.is in
+    let executed = rw c.with_p.ensures at c.execute-next.ensures in
+    let settled = sym c.settled.ensures ∙ c.if-settled.true in
+    let states = c.add_state.ensures in
+    let timed = c.timer_part-k.ensures in (
+      instruction_listed _ _ ready c.fetch-o.ensures listed executed states timed settled c.if-k.false,
+      again _ _ _ _ _ settled ready executed states timed c.if-k.false,
+    )
+
+pub returns-else-settled : goal.returns-else-settled
+returns-else-settled c =
+    let ready = c.requires.1 in
+    let listed = sym c.decode.ensures ∙ c.in-Listed.is in
+    let executed = rw c.with_p.ensures at c.execute-next.ensures in
+    let settled = sym c.settled.ensures ∙ c.if-settled.false in
+    (instruction_listed _ _ ready c.fetch-o.ensures listed executed c.add_state-else-settled.ensures c.timer_part.ensures settled refl, tt)
+
+pub returns-in-Unlisted : goal.returns-in-Unlisted
+returns-in-Unlisted c =
+    let unlisted = sym c.decode.ensures ∙ c.in-Unlisted.is in
+    (instruction_unlisted _ _ c.requires.1 c.fetch-o.ensures unlisted c.unlisted.ensures, tt)
+
+pub timer_part-k-requires : goal.timer_part-k-requires
+timer_part-k-requires c = executed_small _ _ _ _ _ c.requires.0 (rw c.with_p.ensures at c.execute-next.ensures) c.add_state.ensures
+
+pub timer_part-requires : goal.timer_part-requires
+timer_part-requires c = executed_small _ _ _ _ _ c.requires.0 (rw c.with_p.ensures at c.execute-next.ensures) c.add_state-else-settled.ensures

@@ -1,0 +1,6 @@
+use Rattle.execution.specs.Instructions.{cdv_of}
+use Rattle.execution.proofs.transfers.cdv.Goals as goal
+
+pub returns : goal.returns
+unfolding cdv_of
+returns c = rw (c.with_step_previous_state.ensures, c.wrapping_add_u64-now.ensures.value)

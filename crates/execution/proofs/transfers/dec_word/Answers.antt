@@ -1,0 +1,8 @@
+use Rattle.pages.proofs.Stack.{down_only}
+use Rattle.execution.specs.Instructions.{dec_word_of}
+use Rattle.std.proofs.Common.{rules}
+use Rattle.execution.proofs.transfers.dec_word.Goals as goal
+
+pub returns : goal.returns
+unfolding dec_word_of
+returns c = rw (c.set_word.ensures, down_only (search rules) c.wrapping_sub_u16.ensures.value, c.get_word-w.ensures)

@@ -3,7 +3,7 @@
 use Rattle.std.specs.Prelude.{◌≡◌, ℕ, ◌+◌, List, length}
 use Rattle.arithmetic.specs.declared.record.Lh5801.{Lh5801}
 use Rattle.pages.specs.Prog.{Access, exec}
-use Rattle.pages.specs.Contract.{LentPage, at_entry}
+use Rattle.pages.specs.Contract.{LentPage, SharedPage, as_shared}
 use Rattle.execution.specs.declared.Inputs.{Inputs}
 use Rattle.execution.specs.Step.{step_of}
 use Rattle.execution.specs.Completed.{completed_accesses}
@@ -26,5 +26,5 @@ abbrev pub NotesTo : List Access → LentLog → ℕ → ℕ → Type 0
 NotesTo l log i r = Notes l log i × (r ≡ i + length l)
 
 -- a lent log gets the entries of the coming step's accesses from place i on, if it is completed, whatever the inputs; r is the place after them
-abbrev pub NotesStep : Lh5801 → LentPage → LentPage → LentLog → ℕ → ℕ → Type 0
-NotesStep m page0 page1 log i r = (inputs : Inputs) → NotesTo (completed_accesses (exec (step_of m inputs) (at_entry page0 page1))) log i r
+abbrev pub NotesStep : Lh5801 → SharedPage → SharedPage → LentLog → ℕ → ℕ → Type 0
+NotesStep m page0 page1 log i r = (inputs : Inputs) → NotesTo (completed_accesses (exec (step_of m inputs) (as_shared page0 page1))) log i r

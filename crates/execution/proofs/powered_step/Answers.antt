@@ -7,32 +7,23 @@ timer_part-requires c = c.requires.0
 
 pub returns-then-cpu : goal.returns-then-cpu
 returns-then-cpu c =
-    let start = c in
-    step_held _ _ start.requires.1 start.requires.2 c.if-cpu.true c.timer_part.ensures
+    step_held _ _ c.requires.1 c.requires.2 c.if-cpu.true c.timer_part.ensures
 
 pub timer_part-requires-then-cpu-get_flag : goal.timer_part-requires-then-cpu-get_flag
 timer_part-requires-then-cpu-get_flag c =
-    let cleared = c in
-    accept_small _ _ (rw (cleared.acknowledged.ensures, acknowledged_tm) cleared.requires.0) c.accept-next.ensures
+    accept_small _ _ (rw (c.acknowledged.ensures, acknowledged_tm) c.requires.0) c.accept-next.ensures
 
 pub returns-then-cpu-get_flag : goal.returns-then-cpu-get_flag
 returns-then-cpu-get_flag c =
-    let cleared = c in
-    let flag = cleared in
-    let start = flag in
-    step_interrupt _ _ start.requires.1 start.requires.2 _ flag.get_flag.ensures flag.if-cpu.false cleared.if-cpu-get_flag.true
-    cleared.acknowledged.ensures cleared.interrupt_vector-at.ensures c.accept-next.ensures c.timer_part-then-cpu-get_flag.ensures
+    step_interrupt _ _ c.requires.1 c.requires.2 _ c.get_flag.ensures c.if-cpu.false c.if-cpu-get_flag.true
+    c.acknowledged.ensures c.interrupt_vector-at.ensures c.accept-next.ensures c.timer_part-then-cpu-get_flag.ensures
 
 pub returns-then-inputs-eq0 : goal.returns-then-inputs-eq0
 returns-then-inputs-eq0 c =
-    let flag = c in
-    let start = flag in
-    step_halted _ _ start.requires.1 start.requires.2 _ flag.get_flag.ensures flag.if-cpu.false c.if-cpu-get_flag.false start.requires.3
+    step_halted _ _ c.requires.1 c.requires.2 _ c.get_flag.ensures c.if-cpu.false c.if-cpu-get_flag.false c.requires.3
     c.if-inputs-eq0.true
 
 pub returns : goal.returns
 returns c =
-    let flag = c in
-    let start = flag in
-    step_waiting _ _ start.requires.1 start.requires.2 _ flag.get_flag.ensures flag.if-cpu.false c.if-cpu-get_flag.false start.requires.3
+    step_waiting _ _ c.requires.1 c.requires.2 _ c.get_flag.ensures c.if-cpu.false c.if-cpu-get_flag.false c.requires.3
     c.if-inputs-eq0.false c.wait.ensures

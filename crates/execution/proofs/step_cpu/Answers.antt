@@ -4,9 +4,8 @@ use Rattle.execution.proofs.step_cpu.Goals as goal
 
 pub powered_step-requires : goal.powered_step-requires
 powered_step-requires c =
-    let start = c in
     rw c.reached.ensures
-    (rw reached_tm start.requires.0, reached_bf _ ∙ c.if-cpu.true, reached_clear _, reached_due _ ∙ start.requires.1)
+    (rw reached_tm c.requires.0, reached_bf _ ∙ c.if-cpu.true, reached_clear _, reached_due _ ∙ c.requires.1)
 
 pub returns-then-cpu : goal.returns-then-cpu
 returns-then-cpu c =

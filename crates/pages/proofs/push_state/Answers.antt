@@ -5,7 +5,5 @@ use Rattle.pages.proofs.push_state.Goals as goal
 pub returns : goal.returns
 unfolding push_state_of
 returns c =
-    let cleared = c in
-    let pushed = cleared in
-    does_then _ pushed.push-first.ensures
-    (rw (cleared.with_t.ensures, cleared.set_flag-t.ensures) at c.push_word.ensures)
+    does_then _ c.push-first.ensures
+    (rw (c.with_t.ensures, c.set_flag-t.ensures) at c.push_word.ensures)

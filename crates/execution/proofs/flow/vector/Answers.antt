@@ -5,7 +5,6 @@ use Rattle.execution.proofs.flow.vector.Goals as goal
 pub returns : goal.returns
 unfolding vector_of
 returns c =
-    let got = c in
-    does_then _ got.push_word-pushed.ensures
-    (does_then _ got.get_mem16-at.ensures
+    does_then _ c.push_word-pushed.ensures
+    (does_then _ c.get_mem16-at.ensures
     (does_done (rw (c.add_state.ensures, c.with_t.ensures, c.with_p.ensures, c.set_flag-t.ensures))))

@@ -6,10 +6,9 @@ use Rattle.execution.proofs.flow.vector_if.Goals as goal
 pub returns-then-holds : goal.returns-then-holds
 unfolding vector_if_of
 returns-then-holds c =
-    let tested = c in
-    does_then _ tested.cpu_readop-f.ensures
-    (rw (sym tested.holds.ensures ∙ tested.if-holds.true)
-    (rw tested.with_p-next.ensures at c.vector.ensures))
+    does_then _ c.cpu_readop-f.ensures
+    (rw (sym c.holds.ensures ∙ c.if-holds.true)
+    (rw c.with_p-next.ensures at c.vector.ensures))
 
 pub returns-else-holds : goal.returns-else-holds
 unfolding vector_if_of

@@ -6,6 +6,5 @@ use Rattle.execution.proofs.operations.store.Goals as goal
 pub returns : goal.returns
 unfolding store_of
 returns c =
-    let located = c in
-    does_then _ (does_locate _ _ located.word_at.ensures located.locate-l.ensures)
+    does_then _ (does_locate _ _ c.word_at.ensures c.locate-l.ensures)
     (does_then _ c.write_byte.ensures (does_done c.with_p.ensures))

@@ -5,7 +5,6 @@ use Rattle.execution.proofs.transfers.tin.Goals as goal
 pub returns : goal.returns
 unfolding tin_of
 returns c =
-    let written = c in
-    does_then _ written.read_byte-b.ensures
-    (does_then _ written.write_byte.ensures
+    does_then _ c.read_byte-b.ensures
+    (does_then _ c.write_byte.ensures
     (does_done (rw (c.with_y.ensures, c.with_x.ensures, c.wrapping_add_u16-y.ensures.value, c.wrapping_add_u16-x.ensures.value))))

@@ -1,5 +1,6 @@
 // Flags and arithmetic of the LH5801.
 #![tactic(auto)]
+
 ghost use Rattle.std.specs.Prelude.{◌≡◌, ◌≤◌};
 ghost use Rattle.arithmetic.specs.Flags.{bit_of, has_flag, set_flag, check_z, with_bits, with_flags};
 ghost use Rattle.arithmetic.specs.Sums.{overflow_of, add_of, with_sum, adc_of, sbc_of, cpa_of, inc_of, dec_of, adr_of};

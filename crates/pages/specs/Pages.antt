@@ -1,5 +1,5 @@
 -- The two lent pages as one memory (document 01, "Record and pages").
-use Rattle.std.specs.Prelude.{◌≡◌, ℕ, ◌-◌, Bool, cond, List, length, set, nat_lt, slice_index_or, slice_set}
+use Rattle.std.specs.Prelude.{◌≡◌, ℕ, ◌-◌, Bool, cond, List, length, nat_lt, slice_index_or, slice_set}
 
 -- page 0 is addressed 0 to FFFF, page 1 is 10000 to 1FFFF; each may be shorter, or empty
 pub record Pages : Type 0 where

@@ -1,5 +1,6 @@
 // Pages, stack and timer of the LH5801.
 #![tactic(auto)]
+
 ghost use Rattle.std.specs.Prelude.{◌≡◌, ◌<◌, set, slice_index_or, slice_set};
 ghost use Rattle.pages.specs.Prog.{read, write};
 ghost use Rattle.pages.specs.Contract.{Changes, Reads};

@@ -2,6 +2,7 @@
 // here is called where no log is lent. The entries go into a lent log from a place on; what would go past its end is dropped, and the
 // caller sees to it that seven entries are free.
 #![tactic(auto)]
+
 ghost use Rattle.std.specs.Prelude.{◌≡◌, ◌+◌, ◌<◌, ◌≤◌, [], ◌∷◌, set, slice_set};
 ghost use Rattle.pages.specs.Pages.{at as byte_at, stored};
 ghost use Rattle.pages.specs.Prog.{read_of, write_of};

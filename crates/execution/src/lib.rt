@@ -1,5 +1,6 @@
 // Decoding and execution of one instruction, and one step.
 #![tactic(auto)]
+
 ghost use Rattle.std.specs.Prelude.{◌≡◌, ◌<◌, true, false, if◌then◌else◌};
 ghost use Rattle.arithmetic.specs.Record.{with_ir1, with_ir2};
 ghost use Rattle.pages.specs.Prog.{mapped};

@@ -73,7 +73,7 @@ unfolding no_step completed
 reaches_full zero r h x = absurd (not-suc-le-zero h)
 reaches_full {inputs} {free} {m = m} {p = p} (suc n) start h x = run_full inputs free m p n (rw after_none at x)
 reaches_full {inputs} {free} {m = m} {p = p} (suc n) (next {l = l} f e r) h x =
-    rw (run_did inputs free m p n f e, reaches_full n r (le_of_suc-le-suc h) (rw (after_append free (one_step inputs m p).accesses l) at x))
+    rw (run_did inputs free m p n f e, reaches_full {free = free_after free (one_step inputs m p).accesses} n r (le_of_suc-le-suc h) (rw (after_append free (one_step inputs m p).accesses l) at x))
 
 pub reaches_stop : {inputs : Inputs} {free : Option ℕ} {j : ℕ} {m k : Lh5801} {p q : Pages} {t : ℕ} {l : List Access} {s : Stop} (n : ℕ)
     → Reaches inputs free j m p k q t l
@@ -84,7 +84,7 @@ unfolding no_step completed
 reaches_stop zero r h x = absurd (not-suc-le-zero h)
 reaches_stop {inputs} {free} {m = m} {p = p} (suc n) start h x = run_stop inputs free m p n (rw after_none at x.0) x.1
 reaches_stop {inputs} {free} {m = m} {p = p} (suc n) (next {l = l} f e r) h x =
-    rw (run_did inputs free m p n f e, reaches_stop n r (le_of_suc-le-suc h) (rw (after_append free (one_step inputs m p).accesses l) at x.0, x.1))
+    rw (run_did inputs free m p n f e, reaches_stop {free = free_after free (one_step inputs m p).accesses} n r (le_of_suc-le-suc h) (rw (after_append free (one_step inputs m p).accesses l) at x.0, x.1))
 
 -- completed steps after completed steps
 pub reaches_all : {inputs : Inputs} {free : Option ℕ} {i j : ℕ} {h m k : Lh5801} {o p q : Pages} {s t : ℕ} {l₁ l₂ : List Access}
@@ -123,6 +123,14 @@ reaches_from z h start = absurd (omega arith)
 reaches_from {l = l} {p = p} {q = q} z h (next {free = free} {j = j} {n = n} {k = k} {s = s} {t = t} {kind = kind} {l = v} f e r) =
     rw z (next {free = free} {j = j} {m = l} {n = n} {k = k} {p = p} {q = q} {s = s} {t = t} {kind = kind} {l = v} f (rw (← z) e) (rw (← z) r))
 
+-- no step leads to the same, whatever the log
+reaches_nothing : {inputs : Inputs} {free other : Option ℕ} {j : ℕ} {m k : Lh5801} {p q : Pages} {t : ℕ} {l : List Access}
+    → j ≡ 0
+    → Reaches inputs free j m p k q t l
+    → Reaches inputs other j m p k q t l
+reaches_nothing z start = start
+reaches_nothing z (next f e r) = absurd (omega arith)
+
 -- one step at most that leads somewhere without a log does so with one that is not full
 pub reaches_logged : {inputs : Inputs} {free : Option ℕ} {j : ℕ} {m k : Lh5801} {p q : Pages} {t : ℕ} {l : List Access}
     → NotFull free
@@ -130,8 +138,7 @@ pub reaches_logged : {inputs : Inputs} {free : Option ℕ} {j : ℕ} {m k : Lh58
     → Reaches inputs none j m p k q t l
     → Reaches inputs free j m p k q t l
 reaches_logged f h start = start
-reaches_logged f h (next g e start) = next f e start
-reaches_logged f h (next g e (next g₂ e₂ r)) = absurd (omega arith)
+reaches_logged f h (next g e r) = next f e (reaches_nothing (omega arith) r)
 
 -- completed steps keep TM at most 511, and add their states, at most 255 each, to the ticks
 module _ {inputs : Inputs} where

@@ -266,10 +266,8 @@ pub noted_by : (inputs : Inputs) (p : Pages) (now : List ℕ) (used : ℕ) {k m 
 noted_by inputs p now used {after = after} {next = next} e =
     subst (λ (x : Lh5801). (after ≡ noted now used (completed_accesses (one_step inputs x p))) × (next ≡ used + length (completed_accesses (one_step inputs x p)))) e
 
--- what the loop over rounds keeps, of the lent pages and the list of entries: they keep their lengths, and whatever the call's log and its entries were
--- before the loop, from a first round the rounds go on to this one
-pub record Onward (inputs : Inputs) (limit : ℕ) (first : Lh5801) (l0 l1 e : List ℕ) (used₀ until : ℕ) (n0 n1 now : List ℕ) (m : Lh5801) (steps states used : ℕ) : Type 0 where
+-- what the loop over rounds keeps: the lent pages keep their lengths, and this is a round of the call
+pub record Onward (inputs : Inputs) (limit : ℕ) (log : Log) (first : Lh5801) (l0 l1 entries : List ℕ) (until : ℕ) (n0 n1 now : List ℕ) (m : Lh5801) (steps states used : ℕ) : Type 0 where
   pub long0 : length n0 ≡ length l0
   pub long1 : length n1 ≡ length l1
-  pub round : (log : Log) (entries : List ℕ) → Round inputs limit log first (pages l0 l1) entries 0 0 first (pages l0 l1) e used₀ until
-      → Round inputs limit log first (pages l0 l1) entries steps states m (pages n0 n1) now used until
+  pub round : Round inputs limit log first (pages l0 l1) entries steps states m (pages n0 n1) now used until

@@ -1,5 +1,5 @@
 use Rattle.std.proofs.Common.{[], ◌∷◌, refl}
-use Rattle.pages.specs.Pages.{Pages, pages}
+use Rattle.pages.specs.Pages.{pages}
 use Rattle.pages.specs.Prog.{write_of}
 use Rattle.execution.specs.Code.Shapes.{push_and_vector_accesses}
 use Rattle.bus.proofs.Notes.{notes_then}

@@ -1,4 +1,4 @@
-use Rattle.pages.specs.Pages.{Pages, pages}
+use Rattle.pages.specs.Pages.{pages}
 use Rattle.execution.specs.Code.Shapes.{opcode_accesses, shape_accesses}
 use Rattle.execution.proofs.AccessesAhead.{ahead_unlisted, ahead_listed}
 use Rattle.bus.proofs.Notes.{notes_then, notes_as, notes_none}

@@ -1,5 +1,5 @@
 use Rattle.std.proofs.Common.{◌/◌, eq-eqb, ne_eqb}
-use Rattle.pages.specs.Pages.{Pages, pages}
+use Rattle.pages.specs.Pages.{pages}
 use Rattle.pages.specs.Stack.{up16}
 use Rattle.execution.specs.Code.Shapes.{bytes_from, accesses_at}
 use Rattle.bus.proofs.Notes.{notes_then}

@@ -1,4 +1,4 @@
-use Rattle.pages.specs.Pages.{Pages, pages}
+use Rattle.pages.specs.Pages.{pages}
 use Rattle.execution.proofs.AccessesAhead.{powered_held, powered_first, powered_second, powered_halted, powered_instruction}
 use Rattle.bus.proofs.Notes.{notes_as, notes_none}
 use Rattle.bus.proofs.note_powered.Goals as goal

@@ -1,5 +1,5 @@
 use Rattle.std.proofs.Common.{ℕ, ◌+◌, [], ◌∷◌, ◌++◌, refl, ap, ◌∙◌, arith}
-use Rattle.pages.specs.Pages.{Pages, pages}
+use Rattle.pages.specs.Pages.{pages}
 use Rattle.pages.specs.Prog.{read_of}
 use Rattle.execution.specs.Code.Shapes.{push_word_accesses, after_push_word}
 use Rattle.bus.specs.Log.{noted}

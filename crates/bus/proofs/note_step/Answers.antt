@@ -1,4 +1,4 @@
-use Rattle.pages.specs.Pages.{Pages, pages}
+use Rattle.pages.specs.Pages.{pages}
 use Rattle.execution.proofs.AccessesAhead.{step_on, step_off}
 use Rattle.bus.proofs.Notes.{notes_as, notes_none}
 use Rattle.bus.proofs.note_step.Goals as goal

@@ -1,6 +1,4 @@
-use Rattle.std.proofs.Common.{◌≡◌, ℕ, ◌<◌, sym, refl, ◌∙◌}
-use Rattle.arithmetic.specs.declared.record.Lh5801.{Lh5801}
-use Rattle.pages.specs.Timer.{add_state_of}
+use Rattle.std.proofs.Common.{sym, refl, ◌∙◌}
 use Rattle.execution.proofs.Order.{instruction_listed, instruction_unlisted}
 use Rattle.execution.proofs.DueAgain.{again, executed_small}
 use Rattle.execution.proofs.instruction.Goals as goal

@@ -1,11 +1,10 @@
 use Rattle.std.proofs.Common.{sym, ◌∙◌}
-use borrow.Author.Tests.{not-true, not-false}
 use Rattle.run.proofs.advance.Goals as goal
 
 pub other_step-requires : goal.other_step-requires
 other_step-requires c =
-    (c.requires.0, sym c.due.ensures ∙ not-true _ c.if-not-due.true, c.requires.1)
+    (c.requires.0, sym c.due.ensures ∙ c.if-not-due.true, c.requires.1)
 
 pub instructions-requires : goal.instructions-requires
 instructions-requires c =
-    (c.requires.0, sym c.due.ensures ∙ not-false _ c.if-not-due.false, c.requires.1)
+    (c.requires.0, sym c.due.ensures ∙ c.if-not-due.false, c.requires.1)

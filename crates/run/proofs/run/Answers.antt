@@ -28,6 +28,6 @@ returns c =
       page0 = (λ h. omega arith);
       page1 = (λ h. omega arith);
       timer = (λ h. omega arith);
-      c = ⊎_elim c.if-settings-eq0.false (λ h. omega arith);
+      limit = ⊎_elim c.if-settings-eq0.false (λ h. omega arith);
     })
     c.steps_with_log.ensures

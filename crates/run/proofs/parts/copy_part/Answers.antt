@@ -4,15 +4,6 @@ use Rattle.run.specs.Parts.{part, at_start}
 use Rattle.run.proofs.Stored.{one_stored, all_stored, part_length, part_byte}
 use Rattle.run.proofs.parts.copy_part.Goals as goal
 
--- LOOP
-abbrev invariant-loop : tie.invariant-loop
-invariant-loop bytes at page₀ len i₀ page i =
-    (i ≤ len) × (length page ≡ length page₀) × (sets page i (drop i (part bytes at len)) ≡ at_start page₀ (part bytes at len))
-
--- LOOP
-abbrev decreases-loop : tie.decreases-loop
-decreases-loop bytes at page₀ len i₀ page i = len - i
-
 pub loop-i-init : goal.loop-i-init
 loop-i-init c = (omega arith, refl, refl)
 

@@ -34,9 +34,9 @@ made : {settings : Settings} {log : Log} {cpu : Lh5801} {page0 : List ℕ} {len0
 made {page0 = page0} {len0 = len0} {page1 = page1} {len1 = len1} {after0 = after0} {after1 = after1} {start0 = start0} {start1 = start1} h0 h1 s0 s1 e0 e1 a =
     record {
       answer = a.answers.answer;
-      page0_is = start_is after0 start0 page0 len0 e0 h0 s0 ∙ ap (λ (x : Pages). x.page0-1) a.answers.pages;
+      page0_is = start_is after0 start0 page0 len0 e0 h0 s0 ∙ ap (λ (x : Pages). x.page0) a.answers.pages;
       rest0_kept = rest_is after0 start0 page0 len0 e0 h0 s0;
-      page1_is = start_is after1 start1 page1 len1 e1 h1 s1 ∙ ap (λ (x : Pages). x.page1-1) a.answers.pages;
+      page1_is = start_is after1 start1 page1 len1 e1 h1 s1 ∙ ap (λ (x : Pages). x.page1) a.answers.pages;
       rest1_kept = rest_is after1 start1 page1 len1 e1 h1 s1;
       entries_are = a.entries_are;
       used_are = a.used_are;
@@ -44,4 +44,4 @@ made {page0 = page0} {len0 = len0} {page1 = page1} {len1 = len1} {after0 = after
 
 pub returns : goal.returns
 returns c =
-    made c.requires.0 c.requires.1 (same_length c) (same-length-2 c) refl refl c.run.ensures
+    made c.requires.0 c.requires.1 (shape_of-page0 c) (shape_of-page1 c) refl refl c.run.ensures

@@ -9,7 +9,7 @@ returns c =
     c.run_parts-r.ensures.answer
     ∙ rw (
       c.settings_of-settings.ensures,
-      copied _ _ _ _ c.copy_part.ensures c.requires.0.0 (search rules),
-      copied _ _ _ _ c.copy_part-2.ensures c.requires.1.0 (search rules),
+      copied _ _ _ _ c.copy_part.ensures c.requires.page0_len_in_bounds.0 (search rules),
+      copied _ _ _ _ c.copy_part-2.ensures c.requires.page1_len_in_bounds.0 (search rules),
     )
     refl

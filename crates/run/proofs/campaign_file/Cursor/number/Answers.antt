@@ -2,21 +2,11 @@ use Rattle.std.proofs.Common.{◌-◌, ◌%◌, ◌∙◌, arith}
 use Rattle.run.proofs.CampaignFile.Groups.{Passed, passed_none, passed_more, passed_fits, nine_weigh, number_ends, number_last, number_tenth_one, number_tenth_not}
 use Rattle.run.proofs.campaign_file.Cursor.number.Goals as goal
 
--- `run::campaign_file::Cursor::number` meets its contract. The loop's invariant: the groups passed, with their value and the next one's weight,
--- stand in front of those that the definition finds from here on. The measure is what is left of nine groups.
--- LOOP
-abbrev invariant-loop : tie.invariant-loop
-invariant-loop bytes greatest begin at₀ weight₀ value₀ at weight value = Passed bytes begin at weight value
-
--- LOOP
-abbrev decreases-loop : tie.decreases-loop
-decreases-loop bytes greatest begin at₀ weight₀ value₀ at weight value = 9 - (at - begin)
-
 pub loop-at-init : goal.loop-at-init
 loop-at-init c = passed_none c.args.bytes.now c.args.self.at
 
-pub sub-loop : goal.sub-loop
-sub-loop c = omega (arith, c.loop-at.invariant.at_is)
+pub overflow_sub-at : goal.overflow_sub-at
+overflow_sub-at c = omega (arith, c.loop-at.invariant.at_is)
 
 pub returns-then-bytes-at : goal.returns-then-bytes-at
 returns-then-bytes-at c =
@@ -51,8 +41,8 @@ returns-then-bytes-at-2 c =
     let l = c.loop-at in
     number_ends a.bytes.now a.self.at l.at l.weight l.value l.invariant a.greatest c.if-bytes-at-2.true
 
-pub add-checked-4 : goal.add-checked-4
-add-checked-4 c =
+pub overflow_add-value-then-bytes-at-eq1 : goal.overflow_add-value-then-bytes-at-eq1
+overflow_add-value-then-bytes-at-eq1 c =
     let l = c.loop-at in
     omega (arith, nine_weigh l.invariant.count l.weight l.invariant.weight_is l.invariant.few)
 

@@ -4,16 +4,6 @@ use Rattle.run.specs.Code.FileAnswers.{number_field, number_stop}
 use Rattle.run.proofs.CampaignFile.InTurn.{refusal_handed, ReadSo, read_none, read_more, read_stops, read_all}
 use Rattle.run.proofs.campaign_file.Cursor.numbers.Goals as goal
 
--- `run::campaign_file::Cursor::numbers` meets its contract. The loop's invariant: the values read so far stand in front of those that the
--- definition reads from here on.
--- LOOP
-abbrev invariant-loop : tie.invariant-loop
-invariant-loop bytes values₀ c₀ i₀ values c i = (i ≤ 14) × (length values ≡ 14) × ReadSo greatest_values bytes c₀.at values i c.at
-
--- LOOP
-abbrev decreases-loop : tie.decreases-loop
-decreases-loop bytes values₀ c₀ i₀ values c i = 14 - i
-
 pub loop-i-init : goal.loop-i-init
 loop-i-init c = (omega arith, c.requires, read_none greatest_values _ _ _)
 
@@ -27,8 +17,8 @@ loop-i-preserved c = (
   omega arith,
   simp length-set c.loop-i.invariant.1,
   read_more c.loop-i.invariant.2 (omega arith) (omega arith) (rw c.greatest.ensures at (c.number-answer.ensures ∙ ap number_field c.in-Read.is)),
+)
 
 pub returns : goal.returns
 returns c = read_all c.loop-i.invariant.2 (omega arith) (omega arith)
 
-)

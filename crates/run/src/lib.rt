@@ -1,5 +1,6 @@
 // The run call.
 #![tactic(auto)]
+
 ghost use Rattle.std.specs.Prelude.{◌≡◌, ◌-◌, ◌<◌, ◌≤◌, true, false};
 ghost use Rattle.std.proofs.Math.Option.{none, some};
 ghost use Rattle.pages.specs.Contract.{at_entry, at_exit};

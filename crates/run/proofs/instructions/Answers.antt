@@ -1,12 +1,7 @@
-use Rattle.std.proofs.Common.{◌≡◌, ◌+◌, ◌-◌, length, refl, ◌∙◌, subst, arith}
-use Rattle.pages.specs.Pages.{pages}
-use Rattle.pages.specs.Prog.{mapped}
-use Rattle.pages.specs.Contract.{Does}
-use Rattle.execution.specs.declared.Executed.{Executed}
-use Rattle.execution.specs.Step.{step_of}
-use Rattle.execution.specs.Code.Due.{DueAgain, executed_of}
+use Rattle.std.proofs.Common.{◌+◌, refl, ◌∙◌, subst, arith}
+use Rattle.execution.specs.Code.Due.{DueAgain}
 use Rattle.execution.proofs.Order.{reached_tm, reached_ready, executed_step}
-use Rattle.run.proofs.Loop.{Executing, at_start_lem, go_on, small, executed_by, some_did, some_stop, none_stop}
+use Rattle.run.proofs.Loop.{at_start_lem, go_on, small, executed_by, some_did, some_stop, none_stop}
 use Rattle.run.proofs.instructions.Goals as goal
 
 pub loop-next-init : goal.loop-next-init

@@ -1,5 +1,5 @@
-use Rattle.std.proofs.Common.{◌≡◌, ◌-◌, ◌≤◌, length, refl, ◌∙◌, arith, rules}
-use Rattle.run.proofs.Loop.{Kept, at_start_lem, small, led_on, led_open, led_stop, at_limit}
+use Rattle.std.proofs.Common.{refl, ◌∙◌, arith, rules}
+use Rattle.run.proofs.Loop.{at_start_lem, small, led_on, led_open, led_stop, at_limit}
 use Rattle.run.proofs.steps_of.Goals as goal
 
 pub loop-steps-init : goal.loop-steps-init

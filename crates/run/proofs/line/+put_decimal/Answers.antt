@@ -1,4 +1,4 @@
-use Rattle.std.proofs.Common.{◌/◌, arith}
+use Rattle.std.proofs.Common.{arith}
 use Rattle.run.proofs.PrintedLine.{put_then, put_length, decimal_one, decimal_more, length_one, length_more}
 use Rattle.run.proofs.line.+put_decimal.Goals as goal
 

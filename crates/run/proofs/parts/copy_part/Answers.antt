@@ -1,6 +1,5 @@
-use Rattle.std.proofs.Common.{◌≡◌, ◌-◌, ◌≤◌, length, drop, sym, refl, ◌∙◌, arith, length-set}
-use lib.Seq.{sets}
-use Rattle.run.specs.Parts.{part, at_start}
+use Rattle.std.proofs.Common.{sym, refl, ◌∙◌, arith, length-set}
+use Rattle.run.specs.Parts.{part}
 use Rattle.run.proofs.Stored.{one_stored, all_stored, part_length, part_byte}
 use Rattle.run.proofs.parts.copy_part.Goals as goal
 

@@ -1,4 +1,4 @@
-use Rattle.std.proofs.Common.{ℕ, ◌<◌, ◌≤◌, get_or, take, refl, arith}
+use Rattle.std.proofs.Common.{take, refl, arith}
 use Rattle.run.specs.RecordNumbers.{widths, record_of}
 use Rattle.run.proofs.RecordNumbers.{within_at}
 use Rattle.run.proofs.record_numbers.record_of.Goals as goal

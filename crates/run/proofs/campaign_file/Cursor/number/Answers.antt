@@ -1,5 +1,5 @@
-use Rattle.std.proofs.Common.{◌-◌, ◌%◌, ◌∙◌, arith}
-use Rattle.run.proofs.CampaignFile.Groups.{Passed, passed_none, passed_more, passed_fits, nine_weigh, number_ends, number_last, number_tenth_one, number_tenth_not}
+use Rattle.std.proofs.Common.{◌%◌, ◌∙◌, arith}
+use Rattle.run.proofs.CampaignFile.Groups.{passed_none, passed_more, passed_fits, nine_weigh, number_ends, number_last, number_tenth_one, number_tenth_not}
 use Rattle.run.proofs.campaign_file.Cursor.number.Goals as goal
 
 pub loop-at-init : goal.loop-at-init

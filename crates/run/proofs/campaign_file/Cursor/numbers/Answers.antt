@@ -1,7 +1,7 @@
-use Rattle.std.proofs.Common.{◌≡◌, ◌-◌, ◌≤◌, length, refl, ap, ◌∙◌, arith, length-set}
+use Rattle.std.proofs.Common.{refl, ap, ◌∙◌, arith, length-set}
 use Rattle.run.specs.CampaignFile.{greatest_values}
 use Rattle.run.specs.Code.FileAnswers.{number_field, number_stop}
-use Rattle.run.proofs.CampaignFile.InTurn.{refusal_handed, ReadSo, read_none, read_more, read_stops, read_all}
+use Rattle.run.proofs.CampaignFile.InTurn.{refusal_handed, read_none, read_more, read_stops, read_all}
 use Rattle.run.proofs.campaign_file.Cursor.numbers.Goals as goal
 
 pub loop-i-init : goal.loop-i-init
@@ -21,4 +21,3 @@ loop-i-preserved c = (
 
 pub returns : goal.returns
 returns c = read_all c.loop-i.invariant.2 (omega arith) (omega arith)
-

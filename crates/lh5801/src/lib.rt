@@ -1,5 +1,6 @@
 // The entry that a C or Rust program links: one run call.
 #![tactic(auto)]
+
 ghost use Rattle.std.specs.Prelude.{◌≡◌, cond, ltb};
 ghost use Rattle.pages.specs.Contract.{at_entry, at_exit};
 ghost use Rattle.execution.specs.Inputs.{inputs_of};

@@ -1,5 +1,6 @@
 // C functions through which oracle/ runs the arithmetic against the original, on every input, and campaign files against its own reader.
 #![tactic(auto)]
+
 ghost use Rattle.std.specs.Prelude.{◌≡◌};
 ghost use Rattle.run.specs.Line.{Printed};
 ghost use Rattle.run.specs.Report.{report_of};

@@ -1,0 +1,4 @@
+use Rattle.probe.proofs.probe_adr.Goals as goal
+
+pub returns : goal.returns
+returns c = cc

@@ -13,16 +13,20 @@
 // then the bytes that are set. So pages can be longer than a campaign file holds. The list has 64 entries, each FFFFFFFF before the call, also where no
 // log is lent; the used count is then 0.
 #![tactic(auto)]
-ghost use Rattle.std.specs.Prelude.{◌≡◌, ◌+◌, ◌≤◌, length, take};
+
+ghost use Rattle.std.specs.Prelude.{◌≡◌, ◌+◌, ◌<◌, ◌≤◌, length, take, IfOk};
+ghost use Rattle.std.specs.Io.KnownBytes.{Consumes, IsAtEnd};
 ghost use Rattle.run.specs.Parts.{RunParts};
 ghost use Rattle.replay.specs.Numbers.{two_of, four_of, eight_of, end_of, with_number, sums_of, sums_page_of, sums_after_of, sums_differ_of, either_of, both_of, next_byte_of};
 ghost use Rattle.replay.specs.Bytes.{fill_of, copy_page_of, set_of, patch_of, prepare_of, line_differs_of};
 ghost use Rattle.replay.specs.Calls.{refusal_differs_of, log_in, call_differs_of, differs_of, lent_of, item_differs_of, item_of, replay_of, Replayed};
 
 use arithmetic::record::Lh5801;
-use libc::STDOUT_FILENO;
 use run::campaign_file::{Campaign, Parsed, Refusal};
 use run::{Log, Logged, Settings, campaign_file, line, parts, report};
+use std::io::Read;
+use std::rt::Files;
+use std::{fs, io};
 
 // Two running sums over numbers: each number is added to the first, and then the first to the second, modulo 2^64.
 #[derive(Clone, Copy)]
@@ -494,30 +498,38 @@ fn replay(bytes: &[u8]) -> Tally
     }
 }
 
-// The part of the list in an open file.
-fn replay_file(fd: i32) -> Tally
-    ensures { Replayed result }
+// Reads until the buffer is full or the reader ends, and returns how many bytes at the buffer's start were read.
+fn read_full<R: Read>(reader: &mut R, buffer: &mut [u8]) -> io::Result<usize>
+    ensures count { IfOk result (λ n. n ≤ length buffer.new) }
+    ensures bytes { IfOk result (λ n. Consumes (R.remaining reader.old) (R.remaining reader.new) (take n buffer.new)) }
+    ensures end { IfOk result (λ n. n < length buffer.new → IsAtEnd (R.remaining reader.new)) }
 {
-    let mut bytes = [0u8; 65536];
-    let n = io::read_full(fd, &mut bytes);
-    replay(&bytes[..n])
+    let mut filled = 0;
+    while filled < buffer.len() {
+        let count = reader.read(&mut buffer[filled..])?;
+        if count == 0 {
+            return Ok(filled);
+        }
+        filled += count;
+    }
+    Ok(filled)
 }
 
-// The part of the list in the file of this name; no call where it cannot be opened.
-fn replay_path(path: &[u8]) -> Tally
-    ensures { Replayed result }
+// The part of the list in an open file; the error of a read that fails.
+fn replay_file<R: Read>(file: &mut R) -> io::Result<Tally>
+    ensures { IfOk result (λ tally. Replayed tally) }
 {
-    let fd = os::open_read(path);
-    if fd < 0 {
-        os::fail(path);
-        return Tally {
-            calls: 0,
-            differ: 0,
-        };
-    }
-    let tally = replay_file(fd);
-    libc::close(fd);
-    tally
+    let mut bytes = [0u8; 65536];
+    let n = read_full(file, &mut bytes)?;
+    Ok(replay(&bytes[..n]))
+}
+
+// The part of the list in the file of this name; the error where it cannot be opened or read. The file is closed at the end.
+fn replay_path<R: Files>(rt: &R, path: &str) -> io::Result<Tally>
+    ensures { IfOk result (λ tally. Replayed tally) }
+{
+    let mut file = fs::open(rt, path)?;
+    replay_file(&mut file)
 }
 
 // Both parts of the list, modulo 2^64.
@@ -532,17 +544,15 @@ fn both(a: Tally, b: Tally) -> Tally
     }
 }
 
-fn main() {
-    let tally = replay_path(b"answers0.bin");
-    let tally = both(tally, replay_path(b"answers1.bin"));
-    let tally = both(tally, replay_path(b"answers2.bin"));
-    let tally = both(tally, replay_path(b"answers3.bin"));
-    let tally = both(tally, replay_path(b"answers4.bin"));
-    let tally = both(tally, replay_path(b"answers5.bin"));
-    let tally = both(tally, replay_path(b"answers6.bin"));
-    let tally = both(tally, replay_path(b"answers7.bin"));
-    io::print_decimal(STDOUT_FILENO, tally.calls);
-    io::write_all(STDOUT_FILENO, b" calls, ");
-    io::print_decimal(STDOUT_FILENO, tally.differ);
-    io::write_all(STDOUT_FILENO, b" differ\n");
+// Replays the eight parts and prints the counts. A file that cannot be opened or read ends the program with its error, and no count is printed.
+fn main(rt: HostRuntime) -> io::Result<()> {
+    let tally = replay_path(&rt, "answers0.bin")?;
+    let tally = both(tally, replay_path(&rt, "answers1.bin")?);
+    let tally = both(tally, replay_path(&rt, "answers2.bin")?);
+    let tally = both(tally, replay_path(&rt, "answers3.bin")?);
+    let tally = both(tally, replay_path(&rt, "answers4.bin")?);
+    let tally = both(tally, replay_path(&rt, "answers5.bin")?);
+    let tally = both(tally, replay_path(&rt, "answers6.bin")?);
+    let tally = both(tally, replay_path(&rt, "answers7.bin")?);
+    println!(rt; "{} calls, {} differ", tally.calls, tally.differ)
 }

@@ -1,5 +1,5 @@
 -- The pages before a call, and the comparison of a line.
-use Rattle.std.specs.Prelude.{ℕ, zero, suc, ◌+◌, ◌*◌, Bool, true, false, cond, List, [], ◌∷◌, length, take, set, ◌==◌, nat_le, slice_set}
+use Rattle.std.specs.Prelude.{ℕ, zero, suc, ◌+◌, ◌*◌, Bool, true, false, cond, List, [], ◌∷◌, length, take, ◌==◌, nat_le, slice_set}
 use Rattle.run.specs.Parts.{part, at_start}
 use Rattle.replay.specs.declared.Rule.{Rule}
 use Rattle.replay.specs.Numbers.{next_byte_of}

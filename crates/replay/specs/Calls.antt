@@ -113,7 +113,7 @@ replay_from (suc more) bytes at tally =
 unfoldable pub replay_of : List ℕ → Tally
 replay_of bytes = replay_from (length bytes) bytes 0 (record { calls = 0; differ = 0 })
 
--- what is counted of a file: the tally of some bytes, at most 65,536. No bytes where the file cannot be opened
+-- what is counted of a file: the tally of some bytes, at most 65,536
 pub record Replayed (r : Tally) : Type 0 where
   pub bytes : List ℕ
   pub few : length bytes ≤ 65536

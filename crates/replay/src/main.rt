@@ -299,6 +299,7 @@ fn either(line: u64, sums: u64) -> u64
 }
 
 // The sums over what a call leaves: the starts of both pages, all entries of the list, and the used count.
+#[tactic(auto, unfolding(crate::specs::Numbers::sums_after_of))]
 fn sums_after(
     page0: &[u8; 65537],
     len0: usize,

@@ -1,13 +1,13 @@
-use Rattle.std.proofs.Common.{inl, inr, ⊎_elim, arith}
+use Rattle.std.proofs.Common.{inl, inr, ⊎_elim, arith, rules}
 use Rattle.run.proofs.Acceptance.{acceptance_page0, acceptance_page1, acceptance_timer, acceptance_limit}
 use Rattle.run.proofs.LoggedSteps.{refused_answers, accepted_answers}
 use Rattle.run.proofs.run.Goals as goal
 
 pub returns-then-page0-gt65536 : goal.returns-then-page0-gt65536
-returns-then-page0-gt65536 c = refused_answers _ _ _ _ _ (acceptance_page0 _ _ _ c.if-page0-gt65536.true) c.refused.ensures
+returns-then-page0-gt65536 c = refused_answers _ _ _ _ _ (acceptance_page0 _ _ _ c.if-page0-gt65536.true) (search rules)
 
 pub returns-then-page1-gt65536 : goal.returns-then-page1-gt65536
-returns-then-page1-gt65536 c = refused_answers _ _ _ _ _ (acceptance_page1 _ _ _ (λ h. omega arith) c.if-page1-gt65536.true) c.refused-then-page1-gt65536.ensures
+returns-then-page1-gt65536 c = refused_answers _ _ _ _ _ (acceptance_page1 _ _ _ (λ h. omega arith) c.if-page1-gt65536.true) (search rules)
 
 pub returns-then-cpu-gt511 : goal.returns-then-cpu-gt511
 returns-then-cpu-gt511 c = refused_answers _ _ _ _ _ (acceptance_timer _ _ _ (λ h. omega arith) (λ h. omega arith) (omega arith)) c.refused-then-cpu-gt511.ensures

@@ -1,4 +1,4 @@
--- How the code is built, and need not be believed: proofs/note_step/Proof.antt ties it. What a function does that puts the entries of accesses into a
+-- How the code is built, and need not be believed: proofs/note_step/Answers.antt ties it. What a function does that puts the entries of accesses into a
 -- lent log.
 use Rattle.std.specs.Prelude.{◌≡◌, ℕ, ◌+◌, List, length}
 use Rattle.arithmetic.specs.declared.record.Lh5801.{Lh5801}

@@ -16,7 +16,7 @@
  *   W 000F 42
  *   5 4 44 42 18 000A 0000 0000 000E 0008 000 008 44 44 44
  *
- *   cc -I include examples/log.c target/staticlib/liblh5801.a -o log && ./log
+ *   cc -I include examples/log.c crates/lh5801/out/liblh5801.a -o log && ./log
  */
 #include "line.h"
 #include "lh5801.h"

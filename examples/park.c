@@ -5,7 +5,7 @@
  *
  *   0 7 109 00 00 0000 0000 0000 0001 1234 1FF 008 109 109 109
  *
- *   cc -I include examples/park.c target/staticlib/liblh5801.a -o park && ./park
+ *   cc -I include examples/park.c crates/lh5801/out/liblh5801.a -o park && ./park
  */
 #include "line.h"
 #include "lh5801.h"

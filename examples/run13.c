@@ -3,7 +3,7 @@
  *
  *   5 3 25 42 18 0005 0000 0000 0000 0004 000 008 25 0 25
  *
- *   cc -I include examples/run13.c target/staticlib/liblh5801.a -o run13 && ./run13
+ *   cc -I include examples/run13.c crates/lh5801/out/liblh5801.a -o run13 && ./run13
  */
 #include "line.h"
 #include "lh5801.h"

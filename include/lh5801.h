@@ -3,10 +3,10 @@
  *
  * "Document 01" is the requirement that the unit is proved against; the numbers below are its own.
  * "F-1" and "F-2" are requests of document 02, which came after it.
- * `rt staticlib lh5801` at the repository's top writes target/staticlib/liblh5801.a for x86-64.
+ * `rt lib` in crates/lh5801 writes crates/lh5801/out/liblh5801.a for x86-64.
  * Usable from C (C99 and later) and C++.
  *
- *   cc -I include program.c target/staticlib/liblh5801.a
+ *   cc -I include program.c crates/lh5801/out/liblh5801.a
  *
  * The run call
  *

@@ -11,7 +11,8 @@ const DEFAULT_ORIGINAL: &str = "../../shared/docs/src/ceres-core/src/lh5801.rs";
 /// `halted_states` of its own (src/unit.rs). The rest of the file is included unchanged.
 const HEAD: &str = "fn halted_states(";
 const RENAMED_HEAD: &str = "fn halted_states_of_the_original(";
-const DEFAULT_LIBRARY_DIR: &str = "../target/staticlib";
+const DEFAULT_PROBE_DIR: &str = "../crates/probe/out";
+const DEFAULT_PORT_DIR: &str = "../crates/lh5801/out";
 const DEFAULT_PORT_NAME: &str = "lh5801";
 
 fn main() {
@@ -71,7 +72,7 @@ fn changed(original: &Path) -> PathBuf {
 /// Links `libprobe.a`.
 fn probe(here: &Path) {
     let named = variable("PROBE_LIB_DIR");
-    let folder = named.map_or_else(|| here.join(DEFAULT_LIBRARY_DIR), PathBuf::from);
+    let folder = named.map_or_else(|| here.join(DEFAULT_PROBE_DIR), PathBuf::from);
     if env::var_os("CARGO_FEATURE_PROBE").is_some() {
         let more = "name the library's folder in the environment variable PROBE_LIB_DIR";
         link("probe", "probe", &folder.join("libprobe.a"), more);
@@ -81,7 +82,7 @@ fn probe(here: &Path) {
 /// Links `liblh5801.a`, or the archive that `PORT_LIB_DIR` and `PORT_LIB_NAME` tell.
 fn port(here: &Path) {
     let named = variable("PORT_LIB_DIR");
-    let folder = named.map_or_else(|| here.join(DEFAULT_LIBRARY_DIR), PathBuf::from);
+    let folder = named.map_or_else(|| here.join(DEFAULT_PORT_DIR), PathBuf::from);
     let name = variable("PORT_LIB_NAME").unwrap_or_else(|| DEFAULT_PORT_NAME.to_string());
     let archive = folder.join(format!("lib{name}.a"));
     println!("cargo:rustc-env=PORT_ARCHIVE={}", archive.display());
@@ -100,7 +101,7 @@ fn link(feature: &str, library: &str, archive: &Path, more: &str) {
         Ok(full) if full.is_file() => println!("cargo:rustc-link-arg={}", full.display()),
         _ => fail(&format!(
             "The feature `{feature}` links the port's static library, and it is not at {}: run \
-             `rt staticlib {library}` first, or {more} (an absolute path).",
+             `rt lib` in crates/{library} first, or {more} (an absolute path).",
             archive.display()
         )),
     }

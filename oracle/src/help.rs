@@ -28,11 +28,11 @@ Status: 0 where all is well, 1 for a difference, 2 for a fault in the command or
 pub const PORT_HELP: &str = "\
 To build it with the port:
 
-  rt staticlib lh5801                    (at the repository's top)
+  rt lib                                 (in crates/lh5801)
   cargo build --release --features port  (in oracle/)
 
 The environment variables PORT_LIB_DIR and PORT_LIB_NAME, at building, name another archive than
-../target/staticlib and lh5801.
+../crates/lh5801/out and lh5801.
 ";
 
 pub const RUN_HELP: &str = "\
@@ -125,7 +125,7 @@ file it finds and ends with status 1.
 
 --seed S         the seed, a decimal number; 1 without it
 --program PATH   the program, which reads standard input; without the feature `probe` it is
-                 ../target/bin/campaign where none is named
+                 ../crates/campaign/out/campaign where none is named
 ";
 
 pub const REPLAY_HELP: &str = "\
@@ -218,10 +218,10 @@ and compares every answer with a side's; a difference ends with status 1.
 pub const PROBE_HELP: &str = "\
 To build it with the probe:
 
-  rt staticlib lh5801 && rt staticlib probe    (at the repository's top)
+  rt lib                                       (in crates/lh5801, and in crates/probe)
   cargo build --release --features port,probe  (in oracle/)
 
-The environment variable PROBE_LIB_DIR names another folder of libprobe.a than ../target/staticlib.
+The environment variable PROBE_LIB_DIR names another folder of libprobe.a than ../crates/probe/out.
 ";
 
 pub const ARITHMETIC_HELP: &str = "\

@@ -59,7 +59,7 @@ use port::Port;
 
 /// Where the port's program is without `--program`, the replay list without a folder, and the
 /// measured campaign files without `--bench`.
-const CAMPAIGN: &str = concat!(env!("CARGO_MANIFEST_DIR"), "/../target/bin/campaign");
+const CAMPAIGN: &str = concat!(env!("CARGO_MANIFEST_DIR"), "/../crates/campaign/out/campaign");
 const REPLAY: &str = concat!(env!("CARGO_MANIFEST_DIR"), "/../crates/replay/data");
 const BENCH: &str = concat!(env!("CARGO_MANIFEST_DIR"), "/../../shared/bench");
 
@@ -163,7 +163,8 @@ fn source(program: Option<&str>) -> Result<Source, String> {
     }
     let program = PathBuf::from(program.unwrap_or(CAMPAIGN));
     let found = program.canonicalize().map_err(|error| {
-        format!("{}: {error}: run `rt check campaign` first, or use --program", program.display())
+        let program = program.display();
+        format!("{program}: {error}: run `rt run` in crates/campaign first, or use --program")
     });
     found.map(Source::Program)
 }

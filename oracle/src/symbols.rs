@@ -42,7 +42,10 @@ fn entry_alone(symbols: &[(char, String)]) -> bool {
 /// Checks the archive; true where the entry is its only function besides those of the log.
 pub fn run(archive: &Path) -> Result<bool, String> {
     if !archive.is_file() {
-        return Err(format!("{} is missing: run `rt staticlib lh5801` first", archive.display()));
+        return Err(format!(
+            "{} is missing: run `rt lib` in crates/lh5801 first",
+            archive.display()
+        ));
     }
     let output =
         Command::new("nm").arg(archive).output().map_err(|error| format!("nm: {error}"))?;

@@ -257,6 +257,7 @@ fn acknowledged(cpu: Lh5801) -> Lh5801
 }
 
 // A step with BF set and timer reached clear in which no instruction is due.
+#[tactic(auto, using(crate::proofs::Order::step_halted, crate::proofs::Order::step_waiting))]
 fn powered_step(cpu: Lh5801, page0: &mut [u8], page1: &mut [u8], inputs: Inputs) -> Outcome
     requires { (cpu.tm < 512) × (cpu.bf ≡ true) × (cpu.is_timer_reached ≡ false) × (due_of cpu ≡ false) }
     ensures { Changes (mapped outcome_of (step_of cpu inputs)) page0 page1 result }

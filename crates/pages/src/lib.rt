@@ -187,6 +187,7 @@ fn passed(cpu: Lh5801) -> u64
 }
 
 // One shift where 42 states or more have passed since previous was set.
+#[tactic(auto, using(crate::proofs::Timer::timer_part_early, crate::proofs::Timer::timer_part_due))]
 pub fn timer_part(cpu: Lh5801) -> Lh5801
     requires { cpu.tm < 512 }
     ensures { result ≡ timer_part_of cpu }

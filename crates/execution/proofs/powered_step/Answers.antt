@@ -1,4 +1,4 @@
-use Rattle.execution.proofs.Order.{acknowledged_tm, step_held, step_interrupt, step_halted, step_waiting}
+use Rattle.execution.proofs.Order.{acknowledged_tm, step_held, step_interrupt}
 use Rattle.execution.proofs.DueAgain.{accept_small}
 use Rattle.execution.proofs.powered_step.Goals as goal
 
@@ -17,13 +17,3 @@ pub returns-then-cpu-get_flag : goal.returns-then-cpu-get_flag
 returns-then-cpu-get_flag c =
     step_interrupt _ _ c.requires.1 c.requires.2 _ c.get_flag.ensures c.if-cpu.false c.if-cpu-get_flag.true
     c.acknowledged.ensures c.interrupt_vector-at.ensures c.accept-next.ensures c.timer_part-then-cpu-get_flag.ensures
-
-pub returns-then-inputs-eq0 : goal.returns-then-inputs-eq0
-returns-then-inputs-eq0 c =
-    step_halted _ _ c.requires.1 c.requires.2 _ c.get_flag.ensures c.if-cpu.false c.if-cpu-get_flag.false c.requires.3
-    c.if-inputs-eq0.true
-
-pub returns : goal.returns
-returns c =
-    step_waiting _ _ c.requires.1 c.requires.2 _ c.get_flag.ensures c.if-cpu.false c.if-cpu-get_flag.false c.requires.3
-    c.if-inputs-eq0.false c.wait.ensures

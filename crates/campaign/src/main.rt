@@ -1,34 +1,13 @@
 // Reads a campaign file from standard input, and prints document 01's line.
 #![tactic(auto)]
 
-ghost use Rattle.std.specs.Prelude.{◌<◌, ◌≤◌, length, take, IfOk};
-ghost use Rattle.std.specs.Io.KnownBytes.{Consumes, IsAtEnd};
-
 use std::io;
-use std::io::Read;
-
-// Reads until the buffer is full or the reader ends, and returns how many bytes at the buffer's start were read.
-fn read_full<R: Read>(reader: &mut R, buffer: &mut [u8]) -> io::Result<usize>
-    ensures count { IfOk result (λ n. n ≤ length buffer.new) }
-    ensures bytes { IfOk result (λ n. Consumes (R.remaining reader.old) (R.remaining reader.new) (take n buffer.new)) }
-    ensures end { IfOk result (λ n. n < length buffer.new → IsAtEnd (R.remaining reader.new)) }
-{
-    let mut filled = 0;
-    while filled < buffer.len() {
-        let count = reader.read(&mut buffer[filled..])?;
-        if count == 0 {
-            return Ok(filled);
-        }
-        filled += count;
-    }
-    Ok(filled)
-}
 
 // The campaign of standard input; of a longer input than 33,000 bytes the first 33,000. A read or write that fails ends the program with its error.
 fn main(rt: HostRuntime) -> io::Result<()> {
     let mut bytes = [0u8; 33000];
     let mut out = [0u8; 200];
-    let length = read_full(&mut rt.stdin(), &mut bytes)?;
+    let length = input::read_full(&mut rt.stdin(), &mut bytes)?;
     let n = run::report::report(&bytes[..length], &mut out);
     rt.write_all(&out[..n])
 }

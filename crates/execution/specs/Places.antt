@@ -49,7 +49,7 @@ abbrev pub located : ℕ → ℕ → Located
 located at next = record { addr = at; p = next }
 
 -- the address of a place in memory, and P after it was found. A half and a byte in the code have none, and no entry of the opcode tables asks
--- for it (`listed-places`, proofs/Listed.antt)
+-- for it (`listed_places`, proofs/Listed.antt)
 unfoldable pub locate_of : Lh5801 → Place → Prog Located
 locate_of m (InHalf h) = done (located 0 m.p)
 locate_of m (Pointer page r) = done (located (address_of (word_in m r) page) m.p)

@@ -14,8 +14,7 @@
 // log is lent; the used count is then 0.
 #![tactic(auto)]
 
-ghost use Rattle.std.specs.Prelude.{◌≡◌, ◌+◌, ◌<◌, ◌≤◌, length, take, IfOk};
-ghost use Rattle.std.specs.Io.KnownBytes.{Consumes, IsAtEnd};
+ghost use Rattle.std.specs.Prelude.{◌≡◌, ◌+◌, ◌≤◌, length, take, IfOk};
 ghost use Rattle.run.specs.Parts.{RunParts};
 ghost use Rattle.replay.specs.Numbers.{two_of, four_of, eight_of, end_of, with_number, sums_of, sums_page_of, sums_after_of, sums_differ_of, either_of, both_of, next_byte_of};
 ghost use Rattle.replay.specs.Bytes.{fill_of, copy_page_of, set_of, patch_of, prepare_of, line_differs_of};
@@ -499,29 +498,12 @@ fn replay(bytes: &[u8]) -> Tally
     }
 }
 
-// Reads until the buffer is full or the reader ends, and returns how many bytes at the buffer's start were read.
-fn read_full<R: Read>(reader: &mut R, buffer: &mut [u8]) -> io::Result<usize>
-    ensures count { IfOk result (λ n. n ≤ length buffer.new) }
-    ensures bytes { IfOk result (λ n. Consumes (R.remaining reader.old) (R.remaining reader.new) (take n buffer.new)) }
-    ensures end { IfOk result (λ n. n < length buffer.new → IsAtEnd (R.remaining reader.new)) }
-{
-    let mut filled = 0;
-    while filled < buffer.len() {
-        let count = reader.read(&mut buffer[filled..])?;
-        if count == 0 {
-            return Ok(filled);
-        }
-        filled += count;
-    }
-    Ok(filled)
-}
-
 // The part of the list in an open file; the error of a read that fails.
 fn replay_file<R: Read>(file: &mut R) -> io::Result<Tally>
     ensures { IfOk result (λ tally. Replayed tally) }
 {
     let mut bytes = [0u8; 65536];
-    let n = read_full(file, &mut bytes)?;
+    let n = input::read_full(file, &mut bytes)?;
     Ok(replay(&bytes[..n]))
 }
 

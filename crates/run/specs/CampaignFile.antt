@@ -167,7 +167,7 @@ fields_of m asked = record_numbers m ++ (asked.keyboard ∷ asked.limit ∷ [])
 unfoldable pub file_of : Contents → List ℕ
 file_of c = numbers_bytes (fields_of c.cpu c.asked) ++ (page_bytes c.page0 ++ page_bytes c.page1)
 
--- every field is at most its greatest value, which the flags of every record are (`flags-small`, proofs/RecordNumbers.antt)
+-- every field is at most its greatest value, which the flags of every record are (`flags_small`, proofs/RecordNumbers.antt)
 pub record Within (c : Contents) : Type 0 where
   pub numbers : AllWithin greatest_values (fields_of c.cpu c.asked)
   pub page0 : length c.page0 ≤ longest

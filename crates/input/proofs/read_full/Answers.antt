@@ -5,7 +5,7 @@ use Rattle.std.proofs.KnownBytes.{Consumes-trans}
 use Rattle.std.specs.Io.KnownBytes.{Consumes}
 use borrow.Rule.Slice.PartMut.{put_mid, post_of}
 use lib.Seq.{take-add, take-append-le}
-use Rattle.replay.proofs.read_full.Goals as goal
+use Rattle.input.proofs.read_full.Goals as goal
 
 -- the first bytes of old, and what stands behind them in new
 take_split : (at n : ℕ) (old new : List ℕ) → take at new ≡ take at old → take at old ++ slice_range new at (at + n) ≡ take (at + n) new

@@ -71,27 +71,3 @@ returns-in-Stopped c =
     let d = executed_step _ _ (executed_by _ _ c.instruction-executed.ensures.0 c.in-Stopped.is) in
     rw c.stops_after-in-Stopped.ensures
     (some_stop c.requires.1 c.reached-current.ensures l.kept.going l.steps_are c.if-steps-done.false l.room d)
-
-pub shape_of-page0-then-limit-steps : goal.shape_of-page0-then-limit-steps
-shape_of-page0-then-limit-steps c = c.instruction-executed.auto.page0 ∙ c.loop-next.invariant.kept.long0
-
-pub shape_of-page1-then-limit-steps : goal.shape_of-page1-then-limit-steps
-shape_of-page1-then-limit-steps c = c.instruction-executed.auto.page1 ∙ c.loop-next.invariant.kept.long1
-
-pub shape_of-page0-in-Completed : goal.shape_of-page0-in-Completed
-shape_of-page0-in-Completed c = c.instruction-executed.auto.page0 ∙ c.loop-next.invariant.kept.long0
-
-pub shape_of-page1-in-Completed : goal.shape_of-page1-in-Completed
-shape_of-page1-in-Completed c = c.instruction-executed.auto.page1 ∙ c.loop-next.invariant.kept.long1
-
-pub shape_of-page0-then-steps-done : goal.shape_of-page0-then-steps-done
-shape_of-page0-then-steps-done c = c.instruction-executed.auto.page0 ∙ c.loop-next.invariant.kept.long0
-
-pub shape_of-page1-then-steps-done : goal.shape_of-page1-then-steps-done
-shape_of-page1-then-steps-done c = c.instruction-executed.auto.page1 ∙ c.loop-next.invariant.kept.long1
-
-pub shape_of-page0-in-Stopped : goal.shape_of-page0-in-Stopped
-shape_of-page0-in-Stopped c = c.instruction-executed.auto.page0 ∙ c.loop-next.invariant.kept.long0
-
-pub shape_of-page1-in-Stopped : goal.shape_of-page1-in-Stopped
-shape_of-page1-in-Stopped c = c.instruction-executed.auto.page1 ∙ c.loop-next.invariant.kept.long1

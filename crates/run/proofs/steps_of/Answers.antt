@@ -23,15 +23,3 @@ returns-in-Stops c =
 
 pub returns : goal.returns
 returns c = rw c.answered-2.ensures (at_limit c.loop-steps.invariant.going c.loop-steps-test.false (search rules) c.requires.1)
-
-pub shape_of-page0-in-Stops : goal.shape_of-page0-in-Stops
-shape_of-page0-in-Stops c = c.advance-led.auto.page0 ∙ c.loop-steps.invariant.long0
-
-pub shape_of-page1-in-Stops : goal.shape_of-page1-in-Stops
-shape_of-page1-in-Stops c = c.advance-led.auto.page1 ∙ c.loop-steps.invariant.long1
-
-pub shape_of-page0 : goal.shape_of-page0
-shape_of-page0 c = c.loop-steps.invariant.long0
-
-pub shape_of-page1 : goal.shape_of-page1
-shape_of-page1 c = c.loop-steps.invariant.long1

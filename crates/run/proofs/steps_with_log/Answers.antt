@@ -68,39 +68,3 @@ loop-log-preserved c =
           (sym c.note_coming-coming-in-loop-log.ensures.full_is ∙ c.if-coming-2.false)
           (noted_by _ _ _ _ (c.unmoved-seen-in-loop-log.ensures ∙ unmoved_same _) (c.note_coming-coming-in-loop-log.ensures.noted_are c.if-coming-2.false c.args.inputs));
     }
-
-pub shape_of-page0-then-not-log : goal.shape_of-page0-then-not-log
-shape_of-page0-then-not-log c = c.steps_of-part.auto.page0 ∙ c.loop-log.invariant.long0
-
-pub shape_of-page1-then-not-log : goal.shape_of-page1-then-not-log
-shape_of-page1-then-not-log c = c.steps_of-part.auto.page1 ∙ c.loop-log.invariant.long1
-
-pub shape_of-entries-then-not-log : goal.shape_of-entries-then-not-log
-shape_of-entries-then-not-log c = round_length c.loop-log.invariant.round
-
-pub shape_of-page0-then-part-until : goal.shape_of-page0-then-part-until
-shape_of-page0-then-part-until c = c.steps_of-part.auto.page0 ∙ c.loop-log.invariant.long0
-
-pub shape_of-page1-then-part-until : goal.shape_of-page1-then-part-until
-shape_of-page1-then-part-until c = c.steps_of-part.auto.page1 ∙ c.loop-log.invariant.long1
-
-pub shape_of-entries-then-part-until : goal.shape_of-entries-then-part-until
-shape_of-entries-then-part-until c = round_length c.loop-log.invariant.round
-
-pub shape_of-page0-then-limit-steps : goal.shape_of-page0-then-limit-steps
-shape_of-page0-then-limit-steps c = c.steps_of-part.auto.page0 ∙ c.loop-log.invariant.long0
-
-pub shape_of-page1-then-limit-steps : goal.shape_of-page1-then-limit-steps
-shape_of-page1-then-limit-steps c = c.steps_of-part.auto.page1 ∙ c.loop-log.invariant.long1
-
-pub shape_of-entries-then-limit-steps : goal.shape_of-entries-then-limit-steps
-shape_of-entries-then-limit-steps c = round_length c.loop-log.invariant.round
-
-pub shape_of-page0-then-coming-2 : goal.shape_of-page0-then-coming-2
-shape_of-page0-then-coming-2 c = c.steps_of-part.auto.page0 ∙ c.loop-log.invariant.long0
-
-pub shape_of-page1-then-coming-2 : goal.shape_of-page1-then-coming-2
-shape_of-page1-then-coming-2 c = c.steps_of-part.auto.page1 ∙ c.loop-log.invariant.long1
-
-pub shape_of-entries-then-coming-2 : goal.shape_of-entries-then-coming-2
-shape_of-entries-then-coming-2 c = c.note_coming-coming-in-loop-log.auto.entries ∙ round_length c.loop-log.invariant.round

@@ -1,6 +1,8 @@
 // The opcodes of the first page: the high digit of a byte is its row, the low digit its column.
 // A row matches on the whole byte and leaves to the next row of its half what it does not list; the rows
 // of X, Y and U are written out. So one jump leads from a byte to its instruction (docs/TRIED.md).
+#![tactic(auto, unfolding(crate::specs::Code::Chain::chained))]
+
 ghost use Rattle.std.specs.Prelude.{◌≡◌, take, drop};
 ghost use Rattle.execution.specs.Opcodes.{rows, decoded};
 ghost use Rattle.execution.specs.Code.Chain.{chained};

@@ -1,4 +1,6 @@
 // The opcodes after FD, written as those of the first page are. Rows 7 and F list nothing.
+#![tactic(auto, unfolding(crate::specs::Code::Chain::chained))]
+
 ghost use Rattle.std.specs.Prelude.{◌≡◌, drop};
 ghost use Rattle.execution.specs.OpcodesFd.{rows_fd, decoded_fd};
 ghost use Rattle.execution.specs.Code.Chain.{chained};

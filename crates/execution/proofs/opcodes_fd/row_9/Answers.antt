@@ -6,11 +6,3 @@ use Rattle.execution.proofs.opcodes_fd.row_9.Goals as goal
 
 pub returns-in_default : goal.returns-in_default
 returns-in_default c = passed_over (get_or rows_fd 9 []) (drop 10 rows_fd) 9 (12 ∷ 8 ∷ []) c.args.byte (omega arith) (omega arith) tt refl c.in_default.in_default-own.rest c.row_a.ensures
-
-pub returns-in-152 : goal.returns-in-152
-unfolding chained
-returns-in-152 c = rw c.in-152.is c.push_word.ensures
-
-pub returns-in-156 : goal.returns-in-156
-unfolding chained
-returns-in-156 c = rw c.in-156.is c.alu.ensures

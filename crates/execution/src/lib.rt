@@ -74,6 +74,7 @@ pub enum Outcome {
     Stopped(Stop),
 }
 
+#[tactic(auto, unfolding(crate::specs::Instructions::execute_of))]
 pub fn execute(
     cpu: Lh5801,
     page0: &mut [u8],

@@ -1,7 +1,7 @@
 use Rattle.std.proofs.Common.{sym, refl, ◌∙◌, inl, inr, arith, rules}
 use borrow.Author.Tests.{not-true}
 use Rattle.run.proofs.Loop.{unmoved_same}
-use Rattle.run.proofs.LoggedSteps.{round_length, round_small, round_steps, round_sum, only_round, last_round, full_round, next_round, no_log_round, full_call, first_round, round_with, noted_by}
+use Rattle.run.proofs.LoggedSteps.{round_small, round_steps, round_sum, only_round, last_round, full_round, next_round, no_log_round, full_call, first_round, round_with, noted_by}
 use Rattle.run.proofs.steps_with_log.Goals.{then-log+else-coming, else-log}
 use Rattle.run.proofs.steps_with_log.Goals as goal
 

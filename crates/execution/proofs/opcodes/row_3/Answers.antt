@@ -1,5 +1,4 @@
 use Rattle.std.proofs.Common.{[], ◌∷◌, get_or, take, drop, refl, arith}
-use Rattle.execution.specs.Code.Chain.{chained}
 use Rattle.execution.specs.Opcodes.{rows}
 use Rattle.execution.proofs.Table.{passed_over}
 use Rattle.execution.proofs.opcodes.row_3.Goals as goal

@@ -1,5 +1,4 @@
 use Rattle.std.proofs.Common.{[], ◌∷◌, get_or, drop, refl, ◌∙◌, arith}
-use Rattle.execution.specs.Code.Chain.{chained}
 use Rattle.execution.specs.OpcodesFd.{rows_fd}
 use Rattle.execution.proofs.Table.{passed_over, nothing, skip}
 use Rattle.execution.proofs.opcodes_fd.row_e.Goals as goal

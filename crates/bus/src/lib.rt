@@ -12,6 +12,7 @@ ghost use Rattle.execution.specs.Code.Shapes.{opcode_at, bytes_from, code_word_a
 ghost use Rattle.bus.specs.Code.Notes.{most, Notes, NotesTo, NotesStep};
 
 use arithmetic::record::Lh5801;
+use pages::Memory;
 use execution::Fetched;
 
 // The shape of each opcode, what is read and written after its own bytes: the first page's 256 opcodes, then those after FD.
@@ -81,51 +82,51 @@ fn note_write(log: &mut [u32], at: usize, addr: u32, v: u8)
 }
 
 // The byte that an address reads before the step.
-fn byte_at(page0: &[u8], page1: &[u8], addr: u32) -> u8
-    ensures { result ≡ byte_at (as_shared page0 page1) addr }
+fn byte_at(memory: &Memory, addr: u32) -> u8
+    ensures { result ≡ byte_at (as_shared memory) addr }
 {
-    pages::read_byte(page0, page1, addr)
+    memory.read_byte(addr)
 }
 
-fn read_and_note(page0: &[u8], page1: &[u8], log: &mut [u32], at: usize, addr: u32) -> u8
-    ensures { Notes (read_of addr (byte_at (as_shared page0 page1) addr) ∷ []) log at × (result ≡ byte_at (as_shared page0 page1) addr) }
+fn read_and_note(memory: &Memory, log: &mut [u32], at: usize, addr: u32) -> u8
+    ensures { Notes (read_of addr (byte_at (as_shared memory) addr) ∷ []) log at × (result ≡ byte_at (as_shared memory) addr) }
 {
-    let b = byte_at(page0, page1, addr);
+    let b = byte_at(memory, addr);
     note_read(log, at, addr, b);
     b
 }
 
 // At most three bytes, one after the other.
-fn note_bytes(page0: &[u8], page1: &[u8], log: &mut [u32], at: usize, from: u16, k: u8) -> usize
+fn note_bytes(memory: &Memory, log: &mut [u32], at: usize, from: u16, k: u8) -> usize
     requires { (at ≤ most + 4) × (k ≤ 3) }
-    ensures { NotesTo (bytes_from (as_shared page0 page1) from k) log at result }
+    ensures { NotesTo (bytes_from (as_shared memory) from k) log at result }
 {
     if k == 0 {
         return at;
     }
-    read_and_note(page0, page1, log, at, from as u32);
+    read_and_note(memory, log, at, from as u32);
     let at2 = at + 1;
     if k == 1 {
         return at2;
     }
     let second = up(from);
-    read_and_note(page0, page1, log, at2, second as u32);
+    read_and_note(memory, log, at2, second as u32);
     let at3 = at2 + 1;
     if k == 2 {
         return at3;
     }
     let third = up(second);
-    read_and_note(page0, page1, log, at3, third as u32);
+    read_and_note(memory, log, at3, third as u32);
     at3 + 1
 }
 
 // The word in the code, high byte first.
-fn code_word(page0: &[u8], page1: &[u8], p: u16) -> u16
-    ensures { result ≡ code_word_at (as_shared page0 page1) p }
+fn code_word(memory: &Memory, p: u16) -> u16
+    ensures { result ≡ code_word_at (as_shared memory) p }
 {
-    let high = byte_at(page0, page1, p as u32);
+    let high = byte_at(memory, p as u32);
     let next = up(p);
-    let low = byte_at(page0, page1, next as u32);
+    let low = byte_at(memory, next as u32);
     pages::word(high, low)
 }
 
@@ -140,22 +141,22 @@ fn note_push_word(log: &mut [u32], at: usize, s: u16, w: u16)
 }
 
 // Is a write at this address stored?
-fn is_stored(page0: &[u8], page1: &[u8], addr: u32) -> bool
-    ensures { result ≡ stored (as_shared page0 page1) addr }
+fn is_stored(memory: &Memory, addr: u32) -> bool
+    ensures { result ≡ stored (as_shared memory) addr }
 {
     if addr < 65536 {
-        (addr as usize) < page0.len()
+        (addr as usize) < memory.page0.len()
     } else {
-        ((addr - 65536) as usize) < page1.len()
+        ((addr - 65536) as usize) < memory.page1.len()
     }
 }
 
 // What an address reads after v was written at s, where it read b before.
-fn after_write(page0: &[u8], page1: &[u8], s: u16, v: u8, addr: u32, b: u8) -> u8
-    ensures { result ≡ after_write (as_shared page0 page1) s v addr b }
+fn after_write(memory: &Memory, s: u16, v: u8, addr: u32, b: u8) -> u8
+    ensures { result ≡ after_write (as_shared memory) s v addr b }
 {
     if addr == s as u32 {
-        if is_stored(page0, page1, s as u32) {
+        if is_stored(memory, s as u32) {
             v
         } else {
             b
@@ -166,18 +167,17 @@ fn after_write(page0: &[u8], page1: &[u8], s: u16, v: u8, addr: u32, b: u8) -> u
 }
 
 // What it reads after the word w was pushed, where S was s.
-fn after_push_word(page0: &[u8], page1: &[u8], s: u16, w: u16, addr: u32, b: u8) -> u8
-    ensures { result ≡ after_push_word (as_shared page0 page1) s w addr b }
+fn after_push_word(memory: &Memory, s: u16, w: u16, addr: u32, b: u8) -> u8
+    ensures { result ≡ after_push_word (as_shared memory) s w addr b }
 {
-    let first = after_write(page0, page1, s, (w % 256) as u8, addr, b);
+    let first = after_write(memory, s, (w % 256) as u8, addr, b);
     let next = down(s);
-    after_write(page0, page1, next, (w / 256) as u8, addr, first)
+    after_write(memory, next, (w / 256) as u8, addr, first)
 }
 
 // A word pushed, and then a vector read, which held high and low before the push.
 fn note_push_and_vector(
-    page0: &[u8],
-    page1: &[u8],
+    memory: &Memory,
     log: &mut [u32],
     at: usize,
     s: u16,
@@ -187,14 +187,14 @@ fn note_push_and_vector(
     low: u8,
 ) -> usize
     requires { (at ≤ most + 3) × (addr ≤ 65535) }
-    ensures { NotesTo (push_and_vector_accesses (as_shared page0 page1) s w addr high low) log at result }
+    ensures { NotesTo (push_and_vector_accesses (as_shared memory) s w addr high low) log at result }
 {
     note_push_word(log, at, s, w);
-    let first = after_push_word(page0, page1, s, w, addr, high);
+    let first = after_push_word(memory, s, w, addr, high);
     let at2 = at + 1;
     let at3 = at2 + 1;
     note_read(log, at3, addr, first);
-    let second = after_push_word(page0, page1, s, w, addr + 1, low);
+    let second = after_push_word(memory, s, w, addr + 1, low);
     let at4 = at3 + 1;
     note_read(log, at4, addr + 1, second);
     at4 + 1
@@ -202,8 +202,7 @@ fn note_push_and_vector(
 
 // A vector taken, by its number.
 fn note_vector(
-    page0: &[u8],
-    page1: &[u8],
+    memory: &Memory,
     log: &mut [u32],
     at: usize,
     s: u16,
@@ -211,12 +210,12 @@ fn note_vector(
     nr: u8,
 ) -> usize
     requires { at ≤ most + 3 }
-    ensures { NotesTo (vector_accesses (as_shared page0 page1) s w nr) log at result }
+    ensures { NotesTo (vector_accesses (as_shared memory) s w nr) log at result }
 {
     let addr = 0xff00 + nr as u32;
-    let high = byte_at(page0, page1, addr);
-    let low = byte_at(page0, page1, addr + 1);
-    note_push_and_vector(page0, page1, log, at, s, w, addr, high, low)
+    let high = byte_at(memory, addr);
+    let low = byte_at(memory, addr + 1);
+    note_push_and_vector(memory, log, at, s, w, addr, high, low)
 }
 
 // The register of a shape.
@@ -266,8 +265,7 @@ fn rotated(n: u8, a: u8, b: u8) -> u8
 
 // ANI, ORI and ADI: the immediate at p, the memory byte, the write.
 fn note_change(
-    page0: &[u8],
-    page1: &[u8],
+    memory: &Memory,
     log: &mut [u32],
     at: usize,
     n: u8,
@@ -275,31 +273,30 @@ fn note_change(
     p: u16,
 ) -> usize
     requires { at ≤ most + 4 }
-    ensures { NotesTo (change_accesses (as_shared page0 page1) n addr p) log at result }
+    ensures { NotesTo (change_accesses (as_shared memory) n addr p) log at result }
 {
-    let v = read_and_note(page0, page1, log, at, p as u32);
+    let v = read_and_note(memory, log, at, p as u32);
     let at2 = at + 1;
-    let b = read_and_note(page0, page1, log, at2, addr);
+    let b = read_and_note(memory, log, at2, addr);
     let at3 = at2 + 1;
     note_write(log, at3, addr, changed(n, b, v));
     at3 + 1
 }
 
 // BII: the memory byte, the immediate.
-fn note_test(page0: &[u8], page1: &[u8], log: &mut [u32], at: usize, addr: u32, p: u16) -> usize
+fn note_test(memory: &Memory, log: &mut [u32], at: usize, addr: u32, p: u16) -> usize
     requires { at ≤ most + 4 }
-    ensures { NotesTo (test_accesses (as_shared page0 page1) addr p) log at result }
+    ensures { NotesTo (test_accesses (as_shared memory) addr p) log at result }
 {
-    read_and_note(page0, page1, log, at, addr);
+    read_and_note(memory, log, at, addr);
     let at2 = at + 1;
-    read_and_note(page0, page1, log, at2, p as u32);
+    read_and_note(memory, log, at2, p as u32);
     at2 + 1
 }
 
 // DRR and DRL: the memory byte, the write.
 fn note_rotate(
-    page0: &[u8],
-    page1: &[u8],
+    memory: &Memory,
     log: &mut [u32],
     at: usize,
     n: u8,
@@ -307,9 +304,9 @@ fn note_rotate(
     a: u8,
 ) -> usize
     requires { at ≤ most + 4 }
-    ensures { NotesTo (rotate_accesses (as_shared page0 page1) n addr a) log at result }
+    ensures { NotesTo (rotate_accesses (as_shared memory) n addr a) log at result }
 {
-    let b = read_and_note(page0, page1, log, at, addr);
+    let b = read_and_note(memory, log, at, addr);
     let at2 = at + 1;
     note_write(log, at2, addr, rotated(n, a, b));
     at2 + 1
@@ -318,8 +315,7 @@ fn note_rotate(
 // What is done at an address; p is the address after the opcode, or after the word in the code.
 fn note_at(
     cpu: Lh5801,
-    page0: &[u8],
-    page1: &[u8],
+    memory: &Memory,
     log: &mut [u32],
     at: usize,
     n: u8,
@@ -327,10 +323,10 @@ fn note_at(
     p: u16,
 ) -> usize
     requires { at ≤ most + 4 }
-    ensures { NotesTo (accesses_at cpu (as_shared page0 page1) n addr p) log at result }
+    ensures { NotesTo (accesses_at cpu (as_shared memory) n addr p) log at result }
 {
     if n == 0 {
-        read_and_note(page0, page1, log, at, addr);
+        read_and_note(memory, log, at, addr);
         return at + 1;
     }
     if n == 1 {
@@ -338,29 +334,29 @@ fn note_at(
         return at + 1;
     }
     if n < 5 {
-        return note_change(page0, page1, log, at, n, addr, p);
+        return note_change(memory, log, at, n, addr, p);
     }
     if n == 5 {
-        return note_test(page0, page1, log, at, addr, p);
+        return note_test(memory, log, at, addr, p);
     }
-    note_rotate(page0, page1, log, at, n, addr, cpu.a)
+    note_rotate(memory, log, at, n, addr, cpu.a)
 }
 
 // At the word in the code, or where a register points.
-fn note_place(cpu: Lh5801, page0: &[u8], page1: &[u8], log: &mut [u32], at: usize, n: u8) -> usize
+fn note_place(cpu: Lh5801, memory: &Memory, log: &mut [u32], at: usize, n: u8) -> usize
     requires { at ≤ most + 2 }
-    ensures { NotesTo (place_accesses cpu (as_shared page0 page1) n) log at result }
+    ensures { NotesTo (place_accesses cpu (as_shared memory) n) log at result }
 {
     let p = cpu.p;
     if n % 4 == 3 {
-        let next = note_bytes(page0, page1, log, at, p, 2);
-        let addr = paged(code_word(page0, page1, p), n);
+        let next = note_bytes(memory, log, at, p, 2);
+        let addr = paged(code_word(memory, p), n);
         let second = up(p);
         let after = up(second);
-        note_at(cpu, page0, page1, log, next, n / 8, addr, after)
+        note_at(cpu, memory, log, next, n / 8, addr, after)
     } else {
         let addr = paged(register(cpu, n), n);
-        note_at(cpu, page0, page1, log, at, n / 8, addr, p)
+        note_at(cpu, memory, log, at, n / 8, addr, p)
     }
 }
 
@@ -395,44 +391,43 @@ fn holds(t: u8, c: u8) -> bool
 // The vector's number in the code, and where the condition holds, the vector.
 fn note_vector_if(
     cpu: Lh5801,
-    page0: &[u8],
-    page1: &[u8],
+    memory: &Memory,
     log: &mut [u32],
     at: usize,
     c: u8,
 ) -> usize
     requires { at ≤ most + 2 }
-    ensures { NotesTo (vector_if_accesses cpu (as_shared page0 page1) c) log at result }
+    ensures { NotesTo (vector_if_accesses cpu (as_shared memory) c) log at result }
 {
     let p = cpu.p;
-    let nr = read_and_note(page0, page1, log, at, p as u32);
+    let nr = read_and_note(memory, log, at, p as u32);
     let at2 = at + 1;
     if holds(cpu.t, c) {
         let next = up(p);
-        note_vector(page0, page1, log, at2, cpu.s, next, nr)
+        note_vector(memory, log, at2, cpu.s, next, nr)
     } else {
         at2
     }
 }
 
 // TIN: the byte at X, written at Y.
-fn note_tin(cpu: Lh5801, page0: &[u8], page1: &[u8], log: &mut [u32], at: usize) -> usize
+fn note_tin(cpu: Lh5801, memory: &Memory, log: &mut [u32], at: usize) -> usize
     requires { at ≤ most + 2 }
-    ensures { NotesTo (tin_accesses cpu (as_shared page0 page1)) log at result }
+    ensures { NotesTo (tin_accesses cpu (as_shared memory)) log at result }
 {
-    let b = read_and_note(page0, page1, log, at, cpu.x as u32);
+    let b = read_and_note(memory, log, at, cpu.x as u32);
     let at2 = at + 1;
     note_write(log, at2, cpu.y as u32, b);
     at2 + 1
 }
 
 // SJP: the word in the code, and the address after it pushed.
-fn note_sjp(cpu: Lh5801, page0: &[u8], page1: &[u8], log: &mut [u32], at: usize) -> usize
+fn note_sjp(cpu: Lh5801, memory: &Memory, log: &mut [u32], at: usize) -> usize
     requires { at ≤ most + 2 }
-    ensures { NotesTo (sjp_accesses cpu (as_shared page0 page1)) log at result }
+    ensures { NotesTo (sjp_accesses cpu (as_shared memory)) log at result }
 {
     let p = cpu.p;
-    let next = note_bytes(page0, page1, log, at, p, 2);
+    let next = note_bytes(memory, log, at, p, 2);
     let second = up(p);
     let after = up(second);
     note_push_word(log, next, cpu.s, after);
@@ -442,28 +437,27 @@ fn note_sjp(cpu: Lh5801, page0: &[u8], page1: &[u8], log: &mut [u32], at: usize)
 // Shapes 72 to 78.
 fn note_push_or_tin(
     cpu: Lh5801,
-    page0: &[u8],
-    page1: &[u8],
+    memory: &Memory,
     log: &mut [u32],
     at: usize,
     opcode: u8,
     n: u8,
 ) -> usize
     requires { at ≤ most + 2 }
-    ensures { NotesTo (push_or_tin_accesses cpu (as_shared page0 page1) opcode n) log at result }
+    ensures { NotesTo (push_or_tin_accesses cpu (as_shared memory) opcode n) log at result }
 {
     if n == 72 {
         note_write(log, at, cpu.s as u32, cpu.a);
         return at + 1;
     }
     if n == 73 {
-        return note_tin(cpu, page0, page1, log, at);
+        return note_tin(cpu, memory, log, at);
     }
     if n == 74 {
-        return note_sjp(cpu, page0, page1, log, at);
+        return note_sjp(cpu, memory, log, at);
     }
     if n == 75 {
-        return note_vector(page0, page1, log, at, cpu.s, cpu.p, opcode);
+        return note_vector(memory, log, at, cpu.s, cpu.p, opcode);
     }
     note_push_word(log, at, cpu.s, register(cpu, n));
     at + 2
@@ -472,30 +466,29 @@ fn note_push_or_tin(
 // What follows the opcode, by its shape; P stands after the opcode.
 fn note_shape(
     cpu: Lh5801,
-    page0: &[u8],
-    page1: &[u8],
+    memory: &Memory,
     log: &mut [u32],
     at: usize,
     opcode: u8,
     n: u8,
 ) -> usize
     requires { at ≤ most + 2 }
-    ensures { NotesTo (shape_accesses cpu (as_shared page0 page1) opcode n) log at result }
+    ensures { NotesTo (shape_accesses cpu (as_shared memory) opcode n) log at result }
 {
     if n < 64 {
-        return note_place(cpu, page0, page1, log, at, n);
+        return note_place(cpu, memory, log, at, n);
     }
     if n < 68 {
-        return note_bytes(page0, page1, log, at, cpu.p, n - 64);
+        return note_bytes(memory, log, at, cpu.p, n - 64);
     }
     if n < 72 {
         let from = up(cpu.s);
-        return note_bytes(page0, page1, log, at, from, n - 68);
+        return note_bytes(memory, log, at, from, n - 68);
     }
     if n < 80 {
-        return note_push_or_tin(cpu, page0, page1, log, at, opcode, n);
+        return note_push_or_tin(cpu, memory, log, at, opcode, n);
     }
-    note_vector_if(cpu, page0, page1, log, at, n - 80)
+    note_vector_if(cpu, memory, log, at, n - 80)
 }
 
 fn shape(fd: bool, opcode: u8) -> u8
@@ -509,13 +502,13 @@ fn shape(fd: bool, opcode: u8) -> u8
 }
 
 // The byte that names the instruction at p, after FD or not, and the address after it.
-fn opcode_at(page0: &[u8], page1: &[u8], p: u16) -> Fetched
-    ensures { result ≡ opcode_at (as_shared page0 page1) p }
+fn opcode_at(memory: &Memory, p: u16) -> Fetched
+    ensures { result ≡ opcode_at (as_shared memory) p }
 {
-    let first = byte_at(page0, page1, p as u32);
+    let first = byte_at(memory, p as u32);
     let next = up(p);
     if first == 0xfd {
-        let second = byte_at(page0, page1, next as u32);
+        let second = byte_at(memory, next as u32);
         let last = up(next);
         Fetched {
             fd: true,
@@ -532,91 +525,89 @@ fn opcode_at(page0: &[u8], page1: &[u8], p: u16) -> Fetched
 }
 
 // The opcode's own bytes.
-fn note_opcode(page0: &[u8], page1: &[u8], log: &mut [u32], at: usize, p: u16, fd: bool) -> usize
+fn note_opcode(memory: &Memory, log: &mut [u32], at: usize, p: u16, fd: bool) -> usize
     requires { at ≤ most }
-    ensures { NotesTo (opcode_accesses (as_shared page0 page1) p fd) log at result × (result ≤ at + 2) }
+    ensures { NotesTo (opcode_accesses (as_shared memory) p fd) log at result × (result ≤ at + 2) }
 {
     if fd {
-        note_bytes(page0, page1, log, at, p, 2)
+        note_bytes(memory, log, at, p, 2)
     } else {
-        note_bytes(page0, page1, log, at, p, 1)
+        note_bytes(memory, log, at, p, 1)
     }
 }
 
 // The instruction at P; nothing where it is unlisted.
-fn note_instruction(cpu: Lh5801, page0: &[u8], page1: &[u8], log: &mut [u32], at: usize) -> usize
+fn note_instruction(cpu: Lh5801, memory: &Memory, log: &mut [u32], at: usize) -> usize
     requires { at ≤ most }
-    ensures { NotesTo (instruction_accesses cpu (as_shared page0 page1)) log at result }
+    ensures { NotesTo (instruction_accesses cpu (as_shared memory)) log at result }
 {
-    let o = opcode_at(page0, page1, cpu.p);
+    let o = opcode_at(memory, cpu.p);
     let n = shape(o.fd, o.byte);
     if n == 255 {
         return at;
     }
-    let next = note_opcode(page0, page1, log, at, cpu.p, o.fd);
-    note_shape(cpu.with_p(o.p), page0, page1, log, next, o.byte, n)
+    let next = note_opcode(memory, log, at, cpu.p, o.fd);
+    note_shape(cpu.with_p(o.p), memory, log, next, o.byte, n)
 }
 
 // An accepted interrupt: T pushed, P pushed, and the vector read.
 fn note_accept(
     cpu: Lh5801,
-    page0: &[u8],
-    page1: &[u8],
+    memory: &Memory,
     log: &mut [u32],
     at: usize,
     vector: u16,
 ) -> usize
     requires { at ≤ most }
-    ensures { NotesTo (accept_accesses cpu (as_shared page0 page1) vector) log at result }
+    ensures { NotesTo (accept_accesses cpu (as_shared memory) vector) log at result }
 {
     let addr = vector as u32;
     note_write(log, at, cpu.s as u32, cpu.t);
-    let b = byte_at(page0, page1, addr);
-    let high = after_write(page0, page1, cpu.s, cpu.t, addr, b);
-    let b2 = byte_at(page0, page1, addr + 1);
-    let low = after_write(page0, page1, cpu.s, cpu.t, addr + 1, b2);
+    let b = byte_at(memory, addr);
+    let high = after_write(memory, cpu.s, cpu.t, addr, b);
+    let b2 = byte_at(memory, addr + 1);
+    let low = after_write(memory, cpu.s, cpu.t, addr + 1, b2);
     let next = down(cpu.s);
-    note_push_and_vector(page0, page1, log, at + 1, next, cpu.p, addr, high, low)
+    note_push_and_vector(memory, log, at + 1, next, cpu.p, addr, high, low)
 }
 
 // With BF set; first says that IR1 is set or the timer reached.
 fn note_powered(
     cpu: Lh5801,
-    page0: &[u8],
-    page1: &[u8],
+    memory: &Memory,
     log: &mut [u32],
     at: usize,
     first: bool,
 ) -> usize
     requires { at ≤ most }
-    ensures { NotesTo (powered_accesses cpu (as_shared page0 page1) first) log at result }
+    ensures { NotesTo (powered_accesses cpu (as_shared memory) first) log at result }
 {
     if cpu.ir0 {
         return at;
     }
     let enabled = arithmetic::get_flag(cpu.t, arithmetic::IE);
     if first & enabled {
-        return note_accept(cpu, page0, page1, log, at, 0xfffa);
+        return note_accept(cpu, memory, log, at, 0xfffa);
     }
     if cpu.ir2 & enabled {
-        return note_accept(cpu, page0, page1, log, at, 0xfff8);
+        return note_accept(cpu, memory, log, at, 0xfff8);
     }
     // A halted step waits or stops, with no access.
     if cpu.is_halted {
         return at;
     }
-    note_instruction(cpu, page0, page1, log, at)
+    note_instruction(cpu, memory, log, at)
 }
 
 // The entries of the coming step's accesses, from a place of the log on, if the step is completed; none if it stops. The place after them is
 // returned. The step's inputs do not matter.
-pub fn note_step(cpu: Lh5801, page0: &[u8], page1: &[u8], log: &mut [u32], at: usize) -> usize
+pub fn note_step(cpu: Lh5801, memory: &Memory, log: &mut [u32], at: usize) -> usize
     requires { at ≤ most }
-    ensures { NotesStep cpu page0 page1 log at result }
+    ensures { NotesStep cpu memory log at result }
 {
     if cpu.bf {
         let first = cpu.is_timer_reached | cpu.ir1;
-        note_powered(cpu, page0, page1, log, at, first)
+        note_powered(cpu, memory, log, at, first)
     } else {
         at
     }

@@ -5,6 +5,7 @@ ghost use Rattle.execution.specs.Instructions.{holds_of, branched_of, branch_of,
 
 use crate::instructions::Condition;
 use arithmetic::record::Lh5801;
+use pages::Memory;
 
 fn holds(t: u8, c: Condition) -> bool
     ensures { result ≡ holds_of t c }
@@ -42,10 +43,10 @@ fn branched(cpu: Lh5801, p: u16, offset: u8, forward: bool) -> Lh5801
     }
 }
 
-pub fn branch(cpu: Lh5801, page0: &[u8], page1: &[u8], c: Condition, forward: bool) -> Lh5801
-    ensures { Reads (branch_of cpu c forward) page0 page1 result }
+pub fn branch(cpu: Lh5801, memory: &Memory, c: Condition, forward: bool) -> Lh5801
+    ensures { Reads (branch_of cpu c forward) memory result }
 {
-    let f = pages::cpu_readop(cpu.p, page0, page1);
+    let f = memory.cpu_readop(cpu.p);
     if holds(cpu.t, c) {
         branched(cpu, f.p, f.value, forward)
     } else {
@@ -54,10 +55,10 @@ pub fn branch(cpu: Lh5801, page0: &[u8], page1: &[u8], c: Condition, forward: bo
 }
 
 // UL is tested before it is counted down.
-pub fn lop(cpu: Lh5801, page0: &[u8], page1: &[u8]) -> Lh5801
-    ensures { Reads (lop_of cpu) page0 page1 result }
+pub fn lop(cpu: Lh5801, memory: &Memory) -> Lh5801
+    ensures { Reads (lop_of cpu) memory result }
 {
-    let f = pages::cpu_readop(cpu.p, page0, page1);
+    let f = memory.cpu_readop(cpu.p);
     let l = arithmetic::lop(cpu.u);
     let counted = cpu.with_u(l.u);
     if l.again {
@@ -68,54 +69,54 @@ pub fn lop(cpu: Lh5801, page0: &[u8], page1: &[u8]) -> Lh5801
 }
 
 // A vector that is taken.
-pub fn vector(cpu: Lh5801, page0: &mut [u8], page1: &mut [u8], nr: u8) -> Lh5801
-    ensures { Changes (vector_of cpu nr) page0 page1 result }
+pub fn vector(cpu: Lh5801, memory: &mut Memory, nr: u8) -> Lh5801
+    ensures { Changes (vector_of cpu nr) memory result }
 {
-    let pushed = pages::push_word(cpu, page0, page1, cpu.p);
-    let at = pages::get_mem16(page0, page1, 0xff00 + nr as u16);
+    let pushed = pages::push_word(cpu, memory, cpu.p);
+    let at = memory.get_mem16(0xff00 + nr as u16);
     let t = arithmetic::set_flag(cpu.t, arithmetic::ZF, false);
     pages::add_state(pushed.with_p(at).with_t(t), 13)
 }
 
-pub fn vector_if(cpu: Lh5801, page0: &mut [u8], page1: &mut [u8], c: Condition) -> Lh5801
-    ensures { Changes (vector_if_of cpu c) page0 page1 result }
+pub fn vector_if(cpu: Lh5801, memory: &mut Memory, c: Condition) -> Lh5801
+    ensures { Changes (vector_if_of cpu c) memory result }
 {
-    let f = pages::cpu_readop(cpu.p, page0, page1);
+    let f = memory.cpu_readop(cpu.p);
     let next = cpu.with_p(f.p);
     if holds(cpu.t, c) {
-        vector(next, page0, page1, f.value)
+        vector(next, memory, f.value)
     } else {
         next
     }
 }
 
-pub fn jmp(cpu: Lh5801, page0: &[u8], page1: &[u8]) -> Lh5801
-    ensures { Reads (jmp_of cpu) page0 page1 result }
+pub fn jmp(cpu: Lh5801, memory: &Memory) -> Lh5801
+    ensures { Reads (jmp_of cpu) memory result }
 {
-    let w = pages::readop_word(cpu.p, page0, page1);
+    let w = memory.readop_word(cpu.p);
     cpu.with_p(w.value)
 }
 
-pub fn sjp(cpu: Lh5801, page0: &mut [u8], page1: &mut [u8]) -> Lh5801
-    ensures { Changes (sjp_of cpu) page0 page1 result }
+pub fn sjp(cpu: Lh5801, memory: &mut Memory) -> Lh5801
+    ensures { Changes (sjp_of cpu) memory result }
 {
-    let w = pages::readop_word(cpu.p, page0, page1);
-    pages::push_word(cpu, page0, page1, w.p).with_p(w.value)
+    let w = memory.readop_word(cpu.p);
+    pages::push_word(cpu, memory, w.p).with_p(w.value)
 }
 
-pub fn rtn(cpu: Lh5801, page0: &[u8], page1: &[u8]) -> Lh5801
-    ensures { Reads (rtn_of cpu) page0 page1 result }
+pub fn rtn(cpu: Lh5801, memory: &Memory) -> Lh5801
+    ensures { Reads (rtn_of cpu) memory result }
 {
-    let w = pages::pop_word(cpu.s, page0, page1);
+    let w = pages::pop_word(cpu.s, memory);
     cpu.with_p(w.value).with_s(w.s)
 }
 
 // P and then the whole of T.
-pub fn rti(cpu: Lh5801, page0: &[u8], page1: &[u8]) -> Lh5801
-    ensures { Reads (rti_of cpu) page0 page1 result }
+pub fn rti(cpu: Lh5801, memory: &Memory) -> Lh5801
+    ensures { Reads (rti_of cpu) memory result }
 {
-    let w = pages::pop_word(cpu.s, page0, page1);
+    let w = pages::pop_word(cpu.s, memory);
     let s = std::num::wrapping_add_u16(w.s, 1);
-    let t = pages::read_byte(page0, page1, s as u32);
+    let t = memory.read_byte(s as u32);
     cpu.with_p(w.value).with_s(s).with_t(t)
 }

@@ -13,6 +13,7 @@ ghost use Rattle.execution.specs.Inputs.{of_keyboard};
 
 use crate::instructions::{Accumulator, Decoded, Instruction, Signal};
 use arithmetic::record::Lh5801;
+use pages::Memory;
 
 pub mod entries;
 pub mod flow;
@@ -77,47 +78,46 @@ pub enum Outcome {
 #[tactic(auto, unfolding(crate::specs::Instructions::execute_of))]
 pub fn execute(
     cpu: Lh5801,
-    page0: &mut [u8],
-    page1: &mut [u8],
+    memory: &mut Memory,
     inputs: Inputs,
     i: Instruction,
 ) -> Lh5801
-    ensures { Changes (execute_of cpu inputs i) page0 page1 result }
+    ensures { Changes (execute_of cpu inputs i) memory result }
 {
     match i {
-        Instruction::Alu(o, place) => operations::alu(cpu, page0, page1, o, place),
-        Instruction::Sta(place) => operations::sta(cpu, page0, page1, place),
-        Instruction::Memory(o, place) => operations::memory(cpu, page0, page1, o, place),
-        Instruction::Bii(place) => operations::bii(cpu, page0, page1, place),
-        Instruction::Drr(page) => operations::drr(cpu, page0, page1, page),
-        Instruction::Drl(page) => operations::drl(cpu, page0, page1, page),
-        Instruction::Load(h) => operations::load(cpu, page0, page1, h),
-        Instruction::Compare(h) => operations::compare(cpu, page0, page1, h),
+        Instruction::Alu(o, place) => operations::alu(cpu, memory, o, place),
+        Instruction::Sta(place) => operations::sta(cpu, memory, place),
+        Instruction::Memory(o, place) => operations::memory(cpu, memory, o, place),
+        Instruction::Bii(place) => operations::bii(cpu, memory, place),
+        Instruction::Drr(page) => operations::drr(cpu, memory, page),
+        Instruction::Drl(page) => operations::drl(cpu, memory, page),
+        Instruction::Load(h) => operations::load(cpu, memory, h),
+        Instruction::Compare(h) => operations::compare(cpu, memory, h),
         Instruction::Inc(h) => operations::inc_half(cpu, h),
         Instruction::Dec(h) => operations::dec_half(cpu, h),
         Instruction::IncWord(r) => transfers::inc_word(cpu, r),
         Instruction::DecWord(r) => transfers::dec_word(cpu, r),
-        Instruction::Sin(r) => transfers::sin(cpu, page0, page1, r),
-        Instruction::Sde(r) => transfers::sde(cpu, page0, page1, r),
-        Instruction::Lin(r) => transfers::lin(cpu, page0, page1, r),
-        Instruction::Lde(r) => transfers::lde(cpu, page0, page1, r),
-        Instruction::Branch(forward, c) => flow::branch(cpu, page0, page1, c, forward),
-        Instruction::Lop => flow::lop(cpu, page0, page1),
-        Instruction::VectorIf(c) => flow::vector_if(cpu, page0, page1, c),
-        Instruction::Vector(nr) => flow::vector(cpu, page0, page1, nr),
-        Instruction::Jmp => flow::jmp(cpu, page0, page1),
-        Instruction::Sjp => flow::sjp(cpu, page0, page1),
-        Instruction::Rtn => flow::rtn(cpu, page0, page1),
-        Instruction::Rti => flow::rti(cpu, page0, page1),
-        Instruction::LoadS => transfers::load_s(cpu, page0, page1),
-        Instruction::Tin => transfers::tin(cpu, page0, page1),
-        Instruction::Cin => transfers::cin(cpu, page0, page1),
+        Instruction::Sin(r) => transfers::sin(cpu, memory, r),
+        Instruction::Sde(r) => transfers::sde(cpu, memory, r),
+        Instruction::Lin(r) => transfers::lin(cpu, memory, r),
+        Instruction::Lde(r) => transfers::lde(cpu, memory, r),
+        Instruction::Branch(forward, c) => flow::branch(cpu, memory, c, forward),
+        Instruction::Lop => flow::lop(cpu, memory),
+        Instruction::VectorIf(c) => flow::vector_if(cpu, memory, c),
+        Instruction::Vector(nr) => flow::vector(cpu, memory, nr),
+        Instruction::Jmp => flow::jmp(cpu, memory),
+        Instruction::Sjp => flow::sjp(cpu, memory),
+        Instruction::Rtn => flow::rtn(cpu, memory),
+        Instruction::Rti => flow::rti(cpu, memory),
+        Instruction::LoadS => transfers::load_s(cpu, memory),
+        Instruction::Tin => transfers::tin(cpu, memory),
+        Instruction::Cin => transfers::cin(cpu, memory),
         Instruction::OnA(o) => transfers::accumulator(cpu, o, inputs.keyboard),
         Instruction::Sets(s, value) => transfers::signal(cpu, s, value),
-        Instruction::PopWord(r) => transfers::pop_to(cpu, page0, page1, r),
-        Instruction::PushWord(r) => transfers::push_from(cpu, page0, page1, r),
-        Instruction::PopA => pages::pop(cpu, page0, page1),
-        Instruction::PushA => pages::push(cpu, page0, page1, cpu.a),
+        Instruction::PopWord(r) => transfers::pop_to(cpu, memory, r),
+        Instruction::PushWord(r) => transfers::push_from(cpu, memory, r),
+        Instruction::PopA => pages::pop(cpu, memory),
+        Instruction::PushA => pages::push(cpu, memory, cpu.a),
         Instruction::ToX(w) => transfers::to_x(cpu, w),
         Instruction::FromX(w) => transfers::from_x(cpu, w),
         Instruction::DropWord => transfers::drop_word(cpu),
@@ -129,12 +129,12 @@ pub fn execute(
     }
 }
 
-fn fetch(p: u16, page0: &[u8], page1: &[u8]) -> Fetched
-    ensures { Reads (fetch_of p) page0 page1 result }
+fn fetch(p: u16, memory: &Memory) -> Fetched
+    ensures { Reads (fetch_of p) memory result }
 {
-    let f = pages::cpu_readop(p, page0, page1);
+    let f = memory.cpu_readop(p);
     if f.value == 0xfd {
-        let g = pages::cpu_readop(f.p, page0, page1);
+        let g = memory.cpu_readop(f.p);
         Fetched {
             fd: true,
             byte: g.value,
@@ -204,14 +204,14 @@ fn settled(i: Instruction) -> bool
 }
 
 // The step of an instruction that is due: the record after it, and whether an instruction is due again; or the stop of an unlisted byte.
-pub fn instruction(cpu: Lh5801, page0: &mut [u8], page1: &mut [u8], inputs: Inputs) -> Executed
+pub fn instruction(cpu: Lh5801, memory: &mut Memory, inputs: Inputs) -> Executed
     requires { (cpu.tm < 512) × Ready cpu }
-    ensures { Changes (mapped executed_of (step_of cpu inputs)) page0 page1 result × DueAgain result }
+    ensures { Changes (mapped executed_of (step_of cpu inputs)) memory result × DueAgain result }
 {
-    let o = fetch(cpu.p, page0, page1);
+    let o = fetch(cpu.p, memory);
     match decode(o.fd, o.byte) {
         Decoded::Listed(i, states) => {
-            let next = execute(cpu.with_p(o.p), page0, page1, inputs, i);
+            let next = execute(cpu.with_p(o.p), memory, inputs, i);
             // Asked before the timer part: after it, each step costs nine machine instructions more.
             if settled(i) {
                 let k = pages::timer_part(pages::add_state(next, states));
@@ -259,16 +259,16 @@ fn acknowledged(cpu: Lh5801) -> Lh5801
 
 // A step with BF set and timer reached clear in which no instruction is due.
 #[tactic(auto, using(crate::proofs::Order::step_halted, crate::proofs::Order::step_waiting))]
-fn powered_step(cpu: Lh5801, page0: &mut [u8], page1: &mut [u8], inputs: Inputs) -> Outcome
+fn powered_step(cpu: Lh5801, memory: &mut Memory, inputs: Inputs) -> Outcome
     requires { (cpu.tm < 512) × (cpu.bf ≡ true) × (cpu.is_timer_reached ≡ false) × (due_of cpu ≡ false) }
-    ensures { Changes (mapped outcome_of (step_of cpu inputs)) page0 page1 result }
+    ensures { Changes (mapped outcome_of (step_of cpu inputs)) memory result }
 {
     if cpu.ir0 {
         return Outcome::Completed(pages::timer_part(cpu));
     }
     if (cpu.ir1 | cpu.ir2) & arithmetic::get_flag(cpu.t, arithmetic::IE) {
         let at = interrupt_vector(cpu);
-        let next = pages::accept(acknowledged(cpu), page0, page1, at);
+        let next = pages::accept(acknowledged(cpu), memory, at);
         return Outcome::Completed(pages::timer_part(next));
     }
     // Halted.
@@ -289,12 +289,12 @@ pub fn due(cpu: Lh5801) -> bool
 }
 
 // One step in which no instruction is due.
-pub fn step_cpu(cpu: Lh5801, page0: &mut [u8], page1: &mut [u8], inputs: Inputs) -> Outcome
+pub fn step_cpu(cpu: Lh5801, memory: &mut Memory, inputs: Inputs) -> Outcome
     requires { (cpu.tm < 512) × (due_of cpu ≡ false) }
-    ensures { Changes (mapped outcome_of (step_of cpu inputs)) page0 page1 result }
+    ensures { Changes (mapped outcome_of (step_of cpu inputs)) memory result }
 {
     if cpu.bf {
-        powered_step(reached(cpu), page0, page1, inputs)
+        powered_step(reached(cpu), memory, inputs)
     } else {
         Outcome::Completed(pages::add_state(cpu, 8))
     }

@@ -7,6 +7,7 @@ use crate::instructions::{Change, Operation};
 use crate::places;
 use crate::places::{Half, Page, Place};
 use arithmetic::record::Lh5801;
+use pages::Memory;
 
 fn operate(cpu: Lh5801, o: Operation, v: u8) -> Lh5801
     ensures { result ≡ operated cpu o v }
@@ -26,29 +27,29 @@ fn operate(cpu: Lh5801, o: Operation, v: u8) -> Lh5801
 }
 
 // A with the byte of a place.
-pub fn alu(cpu: Lh5801, page0: &[u8], page1: &[u8], o: Operation, place: Place) -> Lh5801
-    ensures { Reads (alu_of cpu o place) page0 page1 result }
+pub fn alu(cpu: Lh5801, memory: &Memory, o: Operation, place: Place) -> Lh5801
+    ensures { Reads (alu_of cpu o place) memory result }
 {
-    let f = places::operand(places::word_at(cpu, place), cpu.p, page0, page1, place);
+    let f = places::operand(places::word_at(cpu, place), cpu.p, memory, place);
     operate(cpu.with_p(f.p), o, f.value)
 }
 
 // A to memory.
-fn store(cpu: Lh5801, page0: &mut [u8], page1: &mut [u8], place: Place) -> Lh5801
-    ensures { Changes (store_of cpu place) page0 page1 result }
+fn store(cpu: Lh5801, memory: &mut Memory, place: Place) -> Lh5801
+    ensures { Changes (store_of cpu place) memory result }
 {
-    let l = places::locate(places::word_at(cpu, place), cpu.p, page0, page1, place);
-    pages::write_byte(page0, page1, l.addr, cpu.a);
+    let l = places::locate(places::word_at(cpu, place), cpu.p, memory, place);
+    memory.write_byte(l.addr, cpu.a);
     cpu.with_p(l.p)
 }
 
 // A to a half or to memory.
-pub fn sta(cpu: Lh5801, page0: &mut [u8], page1: &mut [u8], place: Place) -> Lh5801
-    ensures { Changes (sta_of cpu place) page0 page1 result }
+pub fn sta(cpu: Lh5801, memory: &mut Memory, place: Place) -> Lh5801
+    ensures { Changes (sta_of cpu place) memory result }
 {
     match place {
         Place::InHalf(h) => places::set_half(cpu, h, cpu.a),
-        _ => store(cpu, page0, page1, place),
+        _ => store(cpu, memory, place),
     }
 }
 
@@ -76,60 +77,60 @@ fn changed(t: u8, o: Change, byte: u8, v: u8) -> arithmetic::Sum
 }
 
 // and_mem, ora_mem and add_mem: address, immediate, read, write.
-pub fn memory(cpu: Lh5801, page0: &mut [u8], page1: &mut [u8], o: Change, place: Place) -> Lh5801
-    ensures { Changes (memory_of cpu o place) page0 page1 result }
+pub fn memory(cpu: Lh5801, memory: &mut Memory, o: Change, place: Place) -> Lh5801
+    ensures { Changes (memory_of cpu o place) memory result }
 {
-    let l = places::locate(places::word_at(cpu, place), cpu.p, page0, page1, place);
-    let imm = pages::cpu_readop(l.p, page0, page1);
-    let b = pages::read_byte(page0, page1, l.addr);
+    let l = places::locate(places::word_at(cpu, place), cpu.p, memory, place);
+    let imm = memory.cpu_readop(l.p);
+    let b = memory.read_byte(l.addr);
     let s = changed(cpu.t, o, b, imm.value);
-    pages::write_byte(page0, page1, l.addr, s.value);
+    memory.write_byte(l.addr, s.value);
     cpu.with_p(imm.p).with_t(s.t)
 }
 
 // The memory byte is read before the immediate.
-pub fn bii(cpu: Lh5801, page0: &[u8], page1: &[u8], place: Place) -> Lh5801
-    ensures { Reads (bii_of cpu place) page0 page1 result }
+pub fn bii(cpu: Lh5801, memory: &Memory, place: Place) -> Lh5801
+    ensures { Reads (bii_of cpu place) memory result }
 {
-    let l = places::locate(places::word_at(cpu, place), cpu.p, page0, page1, place);
-    let b = pages::read_byte(page0, page1, l.addr);
-    let imm = pages::cpu_readop(l.p, page0, page1);
+    let l = places::locate(places::word_at(cpu, place), cpu.p, memory, place);
+    let b = memory.read_byte(l.addr);
+    let imm = memory.cpu_readop(l.p);
     arithmetic::bit(cpu.with_p(imm.p), b, imm.value)
 }
 
-pub fn drr(cpu: Lh5801, page0: &mut [u8], page1: &mut [u8], page: Page) -> Lh5801
-    ensures { Changes (drr_of cpu page) page0 page1 result }
+pub fn drr(cpu: Lh5801, memory: &mut Memory, page: Page) -> Lh5801
+    ensures { Changes (drr_of cpu page) memory result }
 {
     let at = places::paged(cpu.x, page);
-    let b = pages::read_byte(page0, page1, at);
+    let b = memory.read_byte(at);
     let moved = arithmetic::drr(cpu.a, b);
-    pages::write_byte(page0, page1, at, moved.byte);
+    memory.write_byte(at, moved.byte);
     cpu.with_a(moved.a)
 }
 
-pub fn drl(cpu: Lh5801, page0: &mut [u8], page1: &mut [u8], page: Page) -> Lh5801
-    ensures { Changes (drl_of cpu page) page0 page1 result }
+pub fn drl(cpu: Lh5801, memory: &mut Memory, page: Page) -> Lh5801
+    ensures { Changes (drl_of cpu page) memory result }
 {
     let at = places::paged(cpu.x, page);
-    let b = pages::read_byte(page0, page1, at);
+    let b = memory.read_byte(at);
     let moved = arithmetic::drl(cpu.a, b);
-    pages::write_byte(page0, page1, at, moved.byte);
+    memory.write_byte(at, moved.byte);
     cpu.with_a(moved.a)
 }
 
 // LDI: a half from the code.
-pub fn load(cpu: Lh5801, page0: &[u8], page1: &[u8], h: Half) -> Lh5801
-    ensures { Reads (load_of cpu h) page0 page1 result }
+pub fn load(cpu: Lh5801, memory: &Memory, h: Half) -> Lh5801
+    ensures { Reads (load_of cpu h) memory result }
 {
-    let f = pages::cpu_readop(cpu.p, page0, page1);
+    let f = memory.cpu_readop(cpu.p);
     places::set_half(cpu.with_p(f.p), h, f.value)
 }
 
 // CPI: a half against the code.
-pub fn compare(cpu: Lh5801, page0: &[u8], page1: &[u8], h: Half) -> Lh5801
-    ensures { Reads (compare_of cpu h) page0 page1 result }
+pub fn compare(cpu: Lh5801, memory: &Memory, h: Half) -> Lh5801
+    ensures { Reads (compare_of cpu h) memory result }
 {
-    let f = pages::cpu_readop(cpu.p, page0, page1);
+    let f = memory.cpu_readop(cpu.p);
     let left = places::get_half(cpu, h);
     arithmetic::cpa(cpu.with_p(f.p), left, f.value)
 }

@@ -5,6 +5,7 @@ ghost use Rattle.execution.specs.Places.{word_in, with_word, half_in, with_half,
 ghost use Rattle.execution.specs.Code.Operands.{chosen, register_of, register_at, half_of, fixed_at, locate_at, operand_at};
 
 use arithmetic::record::Lh5801;
+use pages::Memory;
 use pages::CodeByte;
 
 #[derive(Clone, Copy)]
@@ -121,25 +122,25 @@ pub fn paged(addr: u16, page: Page) -> u32
     }
 }
 
-fn fixed(p: u16, page0: &[u8], page1: &[u8], page: Page) -> Located
-    ensures { Reads (fixed_at p page) page0 page1 result }
+fn fixed(p: u16, memory: &Memory, page: Page) -> Located
+    ensures { Reads (fixed_at p page) memory result }
 {
-    let w = pages::readop_word(p, page0, page1);
+    let w = memory.readop_word(p);
     let at = paged(w.value, page);
     Located { addr: at, p: w.p }
 }
 
 // The address of a place in memory; a half and a byte in the code have none, and no instruction
 // asks for it. at is the word of its register.
-pub fn locate(at: u16, p: u16, page0: &[u8], page1: &[u8], place: Place) -> Located
-    ensures { Reads (locate_at at p place) page0 page1 result }
+pub fn locate(at: u16, p: u16, memory: &Memory, place: Place) -> Located
+    ensures { Reads (locate_at at p place) memory result }
 {
     match place {
         Place::Pointer(page, r) => {
             let addr = paged(at, page);
             Located { addr: addr, p: p }
         }
-        Place::Fixed(page) => fixed(p, page0, page1, page),
+        Place::Fixed(page) => fixed(p, memory, page),
         Place::InHalf(h) => Located { addr: 0, p: p },
         Place::InCode => Located { addr: 0, p: p },
     }
@@ -166,21 +167,21 @@ pub fn word_at(cpu: Lh5801, place: Place) -> u16
 }
 
 // The byte of a place, and P after it was read. at is the word of its register.
-pub fn operand(at: u16, p: u16, page0: &[u8], page1: &[u8], place: Place) -> CodeByte
-    ensures { Reads (operand_at at p place) page0 page1 result }
+pub fn operand(at: u16, p: u16, memory: &Memory, place: Place) -> CodeByte
+    ensures { Reads (operand_at at p place) memory result }
 {
     match place {
         Place::Pointer(page, r) => {
             let addr = paged(at, page);
-            let b = pages::read_byte(page0, page1, addr);
+            let b = memory.read_byte(addr);
             CodeByte { value: b, p: p }
         }
         Place::Fixed(page) => {
-            let l = fixed(p, page0, page1, page);
-            let b = pages::read_byte(page0, page1, l.addr);
+            let l = fixed(p, memory, page);
+            let b = memory.read_byte(l.addr);
             CodeByte { value: b, p: l.p }
         }
-        Place::InCode => pages::cpu_readop(p, page0, page1),
+        Place::InCode => memory.cpu_readop(p),
         Place::InHalf(h) => {
             let b = half_of(at, h);
             CodeByte { value: b, p: p }

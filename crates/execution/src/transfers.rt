@@ -8,6 +8,7 @@ use crate::instructions::{Accumulator, Signal, Word};
 use crate::places;
 use crate::places::Register;
 use arithmetic::record::Lh5801;
+use pages::Memory;
 
 pub fn inc_word(cpu: Lh5801, r: Register) -> Lh5801
     ensures { result ≡ inc_word_of cpu r }
@@ -24,71 +25,71 @@ pub fn dec_word(cpu: Lh5801, r: Register) -> Lh5801
 }
 
 // A to the byte that a pair points to.
-fn store_at(cpu: Lh5801, page0: &mut [u8], page1: &mut [u8], r: Register) -> Lh5801
-    ensures { Changes (store_at_of cpu r) page0 page1 result }
+fn store_at(cpu: Lh5801, memory: &mut Memory, r: Register) -> Lh5801
+    ensures { Changes (store_at_of cpu r) memory result }
 {
     let w = places::get_word(cpu, r);
-    pages::write_byte(page0, page1, w as u32, cpu.a);
+    memory.write_byte(w as u32, cpu.a);
     cpu
 }
 
 // A from the byte that a pair points to.
-fn load_at(cpu: Lh5801, page0: &[u8], page1: &[u8], r: Register) -> Lh5801
-    ensures { Reads (load_at_of cpu r) page0 page1 result }
+fn load_at(cpu: Lh5801, memory: &Memory, r: Register) -> Lh5801
+    ensures { Reads (load_at_of cpu r) memory result }
 {
     let w = places::get_word(cpu, r);
-    let b = pages::read_byte(page0, page1, w as u32);
+    let b = memory.read_byte(w as u32);
     arithmetic::lda(cpu, b)
 }
 
-pub fn sin(cpu: Lh5801, page0: &mut [u8], page1: &mut [u8], r: Register) -> Lh5801
-    ensures { Changes (sin_of cpu r) page0 page1 result }
+pub fn sin(cpu: Lh5801, memory: &mut Memory, r: Register) -> Lh5801
+    ensures { Changes (sin_of cpu r) memory result }
 {
-    inc_word(store_at(cpu, page0, page1, r), r)
+    inc_word(store_at(cpu, memory, r), r)
 }
 
-pub fn sde(cpu: Lh5801, page0: &mut [u8], page1: &mut [u8], r: Register) -> Lh5801
-    ensures { Changes (sde_of cpu r) page0 page1 result }
+pub fn sde(cpu: Lh5801, memory: &mut Memory, r: Register) -> Lh5801
+    ensures { Changes (sde_of cpu r) memory result }
 {
-    dec_word(store_at(cpu, page0, page1, r), r)
+    dec_word(store_at(cpu, memory, r), r)
 }
 
-pub fn lin(cpu: Lh5801, page0: &[u8], page1: &[u8], r: Register) -> Lh5801
-    ensures { Reads (lin_of cpu r) page0 page1 result }
+pub fn lin(cpu: Lh5801, memory: &Memory, r: Register) -> Lh5801
+    ensures { Reads (lin_of cpu r) memory result }
 {
-    inc_word(load_at(cpu, page0, page1, r), r)
+    inc_word(load_at(cpu, memory, r), r)
 }
 
-pub fn lde(cpu: Lh5801, page0: &[u8], page1: &[u8], r: Register) -> Lh5801
-    ensures { Reads (lde_of cpu r) page0 page1 result }
+pub fn lde(cpu: Lh5801, memory: &Memory, r: Register) -> Lh5801
+    ensures { Reads (lde_of cpu r) memory result }
 {
-    dec_word(load_at(cpu, page0, page1, r), r)
+    dec_word(load_at(cpu, memory, r), r)
 }
 
 // S from the code.
-pub fn load_s(cpu: Lh5801, page0: &[u8], page1: &[u8]) -> Lh5801
-    ensures { Reads (load_sOf cpu) page0 page1 result }
+pub fn load_s(cpu: Lh5801, memory: &Memory) -> Lh5801
+    ensures { Reads (load_sOf cpu) memory result }
 {
-    let w = pages::readop_word(cpu.p, page0, page1);
+    let w = memory.readop_word(cpu.p);
     cpu.with_s(w.value).with_p(w.p)
 }
 
 // The byte at X to Y, and both move up.
-pub fn tin(cpu: Lh5801, page0: &mut [u8], page1: &mut [u8]) -> Lh5801
-    ensures { Changes (tin_of cpu) page0 page1 result }
+pub fn tin(cpu: Lh5801, memory: &mut Memory) -> Lh5801
+    ensures { Changes (tin_of cpu) memory result }
 {
-    let b = pages::read_byte(page0, page1, cpu.x as u32);
-    pages::write_byte(page0, page1, cpu.y as u32, b);
+    let b = memory.read_byte(cpu.x as u32);
+    memory.write_byte(cpu.y as u32, b);
     let x = std::num::wrapping_add_u16(cpu.x, 1);
     let y = std::num::wrapping_add_u16(cpu.y, 1);
     cpu.with_x(x).with_y(y)
 }
 
 // A against the byte at X, and X moves up.
-pub fn cin(cpu: Lh5801, page0: &[u8], page1: &[u8]) -> Lh5801
-    ensures { Reads (cin_of cpu) page0 page1 result }
+pub fn cin(cpu: Lh5801, memory: &Memory) -> Lh5801
+    ensures { Reads (cin_of cpu) memory result }
 {
-    let b = pages::read_byte(page0, page1, cpu.x as u32);
+    let b = memory.read_byte(cpu.x as u32);
     let x = std::num::wrapping_add_u16(cpu.x, 1);
     arithmetic::cpa(cpu.with_x(x), cpu.a, b)
 }
@@ -141,19 +142,19 @@ pub fn signal(cpu: Lh5801, s: Signal, value: bool) -> Lh5801
 }
 
 // A pair from the stack.
-pub fn pop_to(cpu: Lh5801, page0: &[u8], page1: &[u8], r: Register) -> Lh5801
-    ensures { Reads (pop_to_of cpu r) page0 page1 result }
+pub fn pop_to(cpu: Lh5801, memory: &Memory, r: Register) -> Lh5801
+    ensures { Reads (pop_to_of cpu r) memory result }
 {
-    let w = pages::pop_word(cpu.s, page0, page1);
+    let w = pages::pop_word(cpu.s, memory);
     places::set_word(cpu.with_s(w.s), r, w.value)
 }
 
 // A pair to the stack.
-pub fn push_from(cpu: Lh5801, page0: &mut [u8], page1: &mut [u8], r: Register) -> Lh5801
-    ensures { Changes (push_from_of cpu r) page0 page1 result }
+pub fn push_from(cpu: Lh5801, memory: &mut Memory, r: Register) -> Lh5801
+    ensures { Changes (push_from_of cpu r) memory result }
 {
     let w = places::get_word(cpu, r);
-    pages::push_word(cpu, page0, page1, w)
+    pages::push_word(cpu, memory, w)
 }
 
 // X from X, Y, U, S or P: X itself in FD 08, which changes nothing.

@@ -4,7 +4,7 @@ use Rattle.std.proofs.Common.{◌≡◌, ℕ, ◌-◌, ◌^◌, Bool, true, fals
 use Rattle.arithmetic.specs.declared.record.Lh5801.{Lh5801}
 use Rattle.arithmetic.specs.Record.{with_a, with_t, with_s, with_tm, with_is_timer_reached, with_timer_state, with_step_previous_state}
 use Rattle.arithmetic.specs.Logic.{lda_of}
-use Rattle.pages.specs.declared.CodeWord.{CodeWord}
+use Rattle.pages.specs.declared.Code.{Code}
 use Rattle.pages.specs.declared.Popped.{Popped}
 use Rattle.pages.specs.Pages.{Pages, pages, at, inside, stored, set_byte, store}
 use Rattle.pages.specs.Prog.{Prog, done, ◌>>=◌, read, write, Access, read_of, write_of, Ran, after, exec}
@@ -21,7 +21,7 @@ abbrev pub small : Pages
 small = pages (0x10 ∷ 0x11 ∷ 0x12 ∷ 0x13 ∷ []) (0x20 ∷ 0x21 ∷ [])
 
 -- what the answers tell
-abbrev pub code : Prog CodeWord → Prog (List ℕ)
+abbrev pub code : Prog (Code ℕ) → Prog (List ℕ)
 code p = p >>= (λ w. done (w.value ∷ w.p ∷ []))
 
 abbrev pub popped : Prog Popped → Prog (List ℕ)

@@ -1,7 +1,7 @@
 -- Access programs one after the other, and what one leaves of the pages.
 use Rattle.std.proofs.Common.{◌≡◌, ℕ, Bool, true, false, cond, ◌&&◌, eqb, List, [], ◌∷◌, ◌++◌, sym, refl, ap, ◌∙◌}
 use Rattle.pages.specs.Pages.{Pages, at, stored, store, SameLength}
-use Rattle.pages.specs.declared.CodeByte.{CodeByte}
+use Rattle.pages.specs.declared.Code.{Code}
 use Rattle.pages.specs.Prog.{Access, Prog, done, get, put, ◌>>=◌, read, read_of, write_of, after, exec}
 use Rattle.pages.specs.Stack.{readop_of}
 use Rattle.pages.specs.Written.{Write, writes, latest, Written}
@@ -35,7 +35,7 @@ unfolding ◌>>=◌
 done_then a f = refl
 
 -- a byte, and then a byte of the code: two reads, in this order
-pub read_then_readop : {A : Type 0} (a p : ℕ) (f : ℕ → CodeByte → A) (m : Pages)
+pub read_then_readop : {A : Type 0} (a p : ℕ) (f : ℕ → Code ℕ → A) (m : Pages)
     → (exec (read a >>= (λ b. readop_of p >>= (λ c. done (f b c)))) m).accesses ≡ read_of a (at m a) ∷ read_of p (at m p) ∷ []
 unfolding exec after read readop_of ◌>>=◌
 read_then_readop a p f m = refl

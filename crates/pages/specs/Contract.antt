@@ -1,35 +1,46 @@
--- The words of the contracts: a function that is lent the two pages does what an access program does.
+-- The words of the contracts: a function that is lent the memory does what an access program does.
 use Rattle.std.specs.Prelude.{◌≡◌, ℕ, List}
 use Rattle.std.specs.Borrow.{Bor, MutBor}
 use denote.Triple.Both.{Both}
+use Rattle.pages.specs.declared.Memory.{Memory}
 use Rattle.pages.specs.Pages.{Pages, pages}
 use Rattle.pages.specs.Prog.{Prog, exec}
 
--- from the pages m, the program p gives r and leaves the pages n
-pub record Does {A : Type 0} (p : Prog A) (m : Pages) (r : A) (n : Pages) : Type 0 where
-  pub value : r ≡ (exec p m).answer
-  pub pages : (exec p m).pages ≡ n
+-- the bytes of the two pages that a memory holds
+abbrev pub held : Memory → Pages
+held memory = pages memory.page0.now memory.page1.now
 
--- a lent page, at entry and at exit: one that may be written, and one that is only read
-abbrev pub LentPage : Type 0
-LentPage = Both (MutBor (List ℕ)) (MutBor (List ℕ))
+-- two memories hold the same lent pages, whatever their bytes are: what is left in the one is left with the lender of the other
+pub record SameLent (l n : Memory) : Type 0 where
+  pub page0 : n.page0.ghost_name ≡ l.page0.ghost_name
+  pub page1 : n.page1.ghost_name ≡ l.page1.ghost_name
 
-abbrev pub SharedPage : Type 0
-SharedPage = Both (Bor (List ℕ)) (Bor (List ℕ))
+-- from the memory l, the program p gives r and leaves the memory n
+pub record Does {A : Type 0} (p : Prog A) (l : Memory) (r : A) (n : Memory) : Type 0 where
+  pub value : r ≡ (exec p (held l)).answer
+  pub pages : (exec p (held l)).pages ≡ held n
+  pub lent : SameLent l n
 
-abbrev pub at_entry : LentPage → LentPage → Pages
-at_entry page0 page1 = pages page0.entry.now page1.entry.now
+-- the memory as a function gets it lent, at entry and at exit: to write, and only to read
+abbrev pub LentMemory : Type 0
+LentMemory = Both (MutBor Memory) (MutBor Memory)
 
-abbrev pub at_exit : LentPage → LentPage → Pages
-at_exit page0 page1 = pages page0.exit.now page1.exit.now
+abbrev pub SharedMemory : Type 0
+SharedMemory = Both (Bor Memory) (Bor Memory)
 
-abbrev pub as_shared : SharedPage → SharedPage → Pages
-as_shared page0 page1 = pages page0.entry.now page1.entry.now
+abbrev pub at_entry : LentMemory → Pages
+at_entry memory = held memory.entry.now
 
--- from the pages at entry, p gives r and leaves the pages at exit
-abbrev pub Changes : {A : Type 0} → Prog A → LentPage → LentPage → A → Type 0
-Changes p page0 page1 r = Does p (at_entry page0 page1) r (at_exit page0 page1)
+abbrev pub at_exit : LentMemory → Pages
+at_exit memory = held memory.exit.now
 
--- the same of pages that are only read: p gives r and leaves them as they were
-abbrev pub Reads : {A : Type 0} → Prog A → SharedPage → SharedPage → A → Type 0
-Reads p page0 page1 r = Does p (as_shared page0 page1) r (as_shared page0 page1)
+abbrev pub as_shared : SharedMemory → Pages
+as_shared memory = held memory.entry.now
+
+-- from the memory at entry, p gives r and leaves the memory at exit
+abbrev pub Changes : {A : Type 0} → Prog A → LentMemory → A → Type 0
+Changes p memory r = Does p memory.entry.now r memory.exit.now
+
+-- the same of a memory that is only read: p gives r and leaves it as it was
+abbrev pub Reads : {A : Type 0} → Prog A → SharedMemory → A → Type 0
+Reads p memory r = Does p memory.entry.now r memory.entry.now

@@ -4,8 +4,7 @@ use Rattle.arithmetic.specs.declared.record.Lh5801.{Lh5801}
 use Rattle.arithmetic.specs.Record.{with_t, with_s, with_p, with_is_halted}
 use Rattle.arithmetic.specs.Flags.{IE, set_flag}
 use Rattle.arithmetic.specs.Logic.{lda_of}
-use Rattle.pages.specs.declared.CodeByte.{CodeByte}
-use Rattle.pages.specs.declared.CodeWord.{CodeWord}
+use Rattle.pages.specs.declared.Code.{Code}
 use Rattle.pages.specs.declared.Popped.{Popped}
 use Rattle.pages.specs.Prog.{Prog, done, read, write, ◌>>=◌}
 
@@ -24,13 +23,13 @@ abbrev pub me1_of : ℕ → ℕ
 me1_of addr = addr + 0x10000
 
 -- `cpu_readop`: the byte at P, and P after it
-unfoldable pub readop_of : ℕ → Prog CodeByte
+unfoldable pub readop_of : ℕ → Prog (Code ℕ)
 readop_of p = do
   byte ← read p
   done (record { value = byte; p = up16 p })
 
 -- `readop_word`: "words in code .. are high byte first"
-unfoldable pub readop_word_of : ℕ → Prog CodeWord
+unfoldable pub readop_word_of : ℕ → Prog (Code ℕ)
 readop_word_of p = do
   high ← readop_of p
   low ← readop_of high.p

@@ -9,17 +9,16 @@ ghost use Rattle.pages.specs.Timer.{add_state_of, timer_inc_of, passed_of, timer
 
 use arithmetic::record::Lh5801;
 
-// A byte of the code, and the place after it.
-#[derive(Clone, Copy)]
-pub struct CodeByte {
-    pub value: u8,
-    pub p: u16,
+// The two lent pages as one memory.
+pub struct Memory<'a> {
+    pub page0: &'a mut [u8],
+    pub page1: &'a mut [u8],
 }
 
-// A word of the code, and the place after it.
+// A byte or a word of the code, and the place after it.
 #[derive(Clone, Copy)]
-pub struct CodeWord {
-    pub value: u16,
+pub struct Code<T> {
+    pub value: T,
     pub p: u16,
 }
 
@@ -46,117 +45,120 @@ fn put_at(page: &mut [u8], at: usize, v: u8)
     }
 }
 
-pub fn read_byte(page0: &[u8], page1: &[u8], addr: u32) -> u8
-    ensures { Reads (read addr) page0 page1 result }
-{
-    if addr < 65536 {
-        byte_at(page0, addr as usize)
-    } else {
-        byte_at(page1, (addr - 65536) as usize)
-    }
-}
-
-pub fn write_byte(page0: &mut [u8], page1: &mut [u8], addr: u32, v: u8)
-    ensures { Changes (write addr v) page0 page1 tt }
-{
-    if addr < 65536 {
-        put_at(page0, addr as usize, v);
-    } else {
-        put_at(page1, (addr - 65536) as usize, v);
-    }
-}
-
 // The address on page 1.
 pub fn me1(addr: u16) -> u32
     ensures { result ≡ me1_of addr }
 {
-    addr as u32 + 65536
+    u32::from(addr) + 65536
 }
 
 pub fn word(high: u8, low: u8) -> u16
     ensures { result ≡ word_of high low }
 {
-    high as u16 * 256 + low as u16
+    u16::from_be_bytes([high, low])
 }
 
-pub fn cpu_readop(p: u16, page0: &[u8], page1: &[u8]) -> CodeByte
-    ensures { Reads (readop_of p) page0 page1 result }
-{
-    let b = read_byte(page0, page1, p as u32);
-    let next = std::num::wrapping_add_u16(p, 1);
-    CodeByte { value: b, p: next }
+impl Memory<'_> {
+    pub fn read_byte(&self, addr: u32) -> u8
+        ensures { Reads (read addr) self result }
+    {
+        if addr < 65536 {
+            byte_at(self.page0, addr as usize)
+        } else {
+            byte_at(self.page1, (addr - 65536) as usize)
+        }
+    }
+
+    pub fn write_byte(&mut self, addr: u32, v: u8)
+        ensures { Changes (write addr v) self tt }
+    {
+        if addr < 65536 {
+            put_at(self.page0, addr as usize, v);
+        } else {
+            put_at(self.page1, (addr - 65536) as usize, v);
+        }
+    }
+
+    pub fn cpu_readop(&self, p: u16) -> Code<u8>
+        ensures { Reads (readop_of p) self result }
+    {
+        let value = self.read_byte(u32::from(p));
+        let next = p.wrapping_add(1);
+        Code { value, p: next }
+    }
+
+    pub fn readop_word(&self, p: u16) -> Code<u16>
+        ensures { Reads (readop_word_of p) self result }
+    {
+        let hi = self.cpu_readop(p);
+        let lo = self.cpu_readop(hi.p);
+        let value = word(hi.value, lo.value);
+        Code { value, p: lo.p }
+    }
+
+    // The word at an address, high byte first; the second address does not wrap.
+    pub fn get_mem16(&self, addr: u16) -> u16
+        ensures { Reads (mem16_of addr) self result }
+    {
+        let hi = self.read_byte(u32::from(addr));
+        let lo = self.read_byte(u32::from(addr) + 1);
+        word(hi, lo)
+    }
 }
 
-pub fn readop_word(p: u16, page0: &[u8], page1: &[u8]) -> CodeWord
-    ensures { Reads (readop_word_of p) page0 page1 result }
+pub fn push(cpu: Lh5801, memory: &mut Memory, v: u8) -> Lh5801
+    ensures { Changes (push_of cpu v) memory result }
 {
-    let hi = cpu_readop(p, page0, page1);
-    let lo = cpu_readop(hi.p, page0, page1);
-    let w = word(hi.value, lo.value);
-    CodeWord { value: w, p: lo.p }
-}
-
-// The word at an address, high byte first; the second address does not wrap.
-pub fn get_mem16(page0: &[u8], page1: &[u8], addr: u16) -> u16
-    ensures { Reads (mem16_of addr) page0 page1 result }
-{
-    let hi = read_byte(page0, page1, addr as u32);
-    let lo = read_byte(page0, page1, addr as u32 + 1);
-    word(hi, lo)
-}
-
-pub fn push(cpu: Lh5801, page0: &mut [u8], page1: &mut [u8], v: u8) -> Lh5801
-    ensures { Changes (push_of cpu v) page0 page1 result }
-{
-    write_byte(page0, page1, cpu.s as u32, v);
-    let s = std::num::wrapping_sub_u16(cpu.s, 1);
+    memory.write_byte(u32::from(cpu.s), v);
+    let s = cpu.s.wrapping_sub(1);
     cpu.with_s(s)
 }
 
 // Low byte first.
-pub fn push_word(cpu: Lh5801, page0: &mut [u8], page1: &mut [u8], w: u16) -> Lh5801
-    ensures { Changes (push_word_of cpu w) page0 page1 result }
+pub fn push_word(cpu: Lh5801, memory: &mut Memory, w: u16) -> Lh5801
+    ensures { Changes (push_word_of cpu w) memory result }
 {
-    let once = push(cpu, page0, page1, (w % 256) as u8);
-    push(once, page0, page1, (w / 256) as u8)
+    let [high, low] = w.to_be_bytes();
+    let once = push(cpu, memory, low);
+    push(once, memory, high)
 }
 
 // A from the stack, and Z from it.
-pub fn pop(cpu: Lh5801, page0: &[u8], page1: &[u8]) -> Lh5801
-    ensures { Reads (pop_of cpu) page0 page1 result }
+pub fn pop(cpu: Lh5801, memory: &Memory) -> Lh5801
+    ensures { Reads (pop_of cpu) memory result }
 {
-    let s = std::num::wrapping_add_u16(cpu.s, 1);
-    let b = read_byte(page0, page1, s as u32);
+    let s = cpu.s.wrapping_add(1);
+    let b = memory.read_byte(u32::from(s));
     arithmetic::lda(cpu.with_s(s), b)
 }
 
 // High byte first.
-pub fn pop_word(s: u16, page0: &[u8], page1: &[u8]) -> Popped
-    ensures { Reads (pop_word_of s) page0 page1 result }
+pub fn pop_word(s: u16, memory: &Memory) -> Popped
+    ensures { Reads (pop_word_of s) memory result }
 {
-    let s1 = std::num::wrapping_add_u16(s, 1);
-    let hi = read_byte(page0, page1, s1 as u32);
-    let s2 = std::num::wrapping_add_u16(s1, 1);
-    let lo = read_byte(page0, page1, s2 as u32);
+    let s1 = s.wrapping_add(1);
+    let hi = memory.read_byte(u32::from(s1));
+    let s2 = s1.wrapping_add(1);
+    let lo = memory.read_byte(u32::from(s2));
     let w = word(hi, lo);
     Popped { value: w, s: s2 }
 }
 
 // T and P on the stack, T with IE still set, and IE cleared.
-fn push_state(cpu: Lh5801, page0: &mut [u8], page1: &mut [u8]) -> Lh5801
-    ensures { Changes (push_state_of cpu) page0 page1 result }
+fn push_state(cpu: Lh5801, memory: &mut Memory) -> Lh5801
+    ensures { Changes (push_state_of cpu) memory result }
 {
-    let first = push(cpu, page0, page1, cpu.t);
+    let first = push(cpu, memory, cpu.t);
     let t = arithmetic::set_flag(cpu.t, arithmetic::IE, false);
-    push_word(first.with_t(t), page0, page1, cpu.p)
+    push_word(first.with_t(t), memory, cpu.p)
 }
 
 // An accepted interrupt.
-pub fn accept(cpu: Lh5801, page0: &mut [u8], page1: &mut [u8], vector: u16) -> Lh5801
-    ensures { Changes (accept_of cpu vector) page0 page1 result }
+pub fn accept(cpu: Lh5801, memory: &mut Memory, vector: u16) -> Lh5801
+    ensures { Changes (accept_of cpu vector) memory result }
 {
-    let pushed = push_state(cpu, page0, page1);
-    let at = get_mem16(page0, page1, vector);
+    let pushed = push_state(cpu, memory);
+    let at = memory.get_mem16(vector);
     pushed.with_p(at).with_is_halted(false)
 }
 
@@ -164,8 +166,8 @@ pub fn accept(cpu: Lh5801, page0: &mut [u8], page1: &mut [u8], vector: u16) -> L
 pub fn add_state(cpu: Lh5801, n: u8) -> Lh5801
     ensures { result ≡ add_state_of cpu n }
 {
-    let now = std::num::wrapping_add_u64(cpu.timer_state, n as u64);
-    let ticks = std::num::wrapping_add_u64(cpu.ticks, n as u64);
+    let now = cpu.timer_state.wrapping_add(u64::from(n));
+    let ticks = cpu.ticks.wrapping_add(u64::from(n));
     cpu.with_timer_state(now).with_ticks(ticks)
 }
 
@@ -180,10 +182,11 @@ pub fn timer_inc(cpu: Lh5801) -> Lh5801
 }
 
 // The states since previous was set; the difference wraps.
+#[tactic(auto, unfolding(crate::specs::Timer::passed_of))]
 fn passed(cpu: Lh5801) -> u64
     ensures { result ≡ passed_of cpu }
 {
-    std::num::wrapping_sub_u64(cpu.timer_state, cpu.step_previous_state)
+    cpu.timer_state.wrapping_sub(cpu.step_previous_state)
 }
 
 // One shift where 42 states or more have passed since previous was set.

@@ -1,9 +1,0 @@
-use Rattle.pages.proofs.Does.{does_write0, does_write1}
-use Rattle.std.proofs.Common.{rules}
-use Rattle.pages.proofs.write_byte.Goals as goal
-
-pub returns-then-addr-lt65536 : goal.returns-then-addr-lt65536
-returns-then-addr-lt65536 c = does_write0 _ _ (search rules) (cc)
-
-pub returns-else-addr-lt65536 : goal.returns-else-addr-lt65536
-returns-else-addr-lt65536 c = does_write1 _ _ (search rules) (cc)

@@ -5,7 +5,7 @@ use Rattle.arithmetic.specs.declared.record.Lh5801.{Lh5801}
 use Rattle.arithmetic.specs.Record.{with_p, with_s, with_t, with_ir1, with_ir2, with_is_timer_reached}
 use Rattle.arithmetic.specs.Flags.{IE, has_flag}
 use Rattle.arithmetic.specs.Sums.{add_of}
-use Rattle.pages.specs.declared.CodeByte.{CodeByte}
+use Rattle.pages.specs.declared.Code.{Code}
 use Rattle.pages.specs.Pages.{Pages, at, stored, store, SameLength}
 use Rattle.pages.specs.Prog.{Prog, done, ◌>>=◌, read, write, Access, read_of, after, exec}
 use Rattle.pages.specs.Stack.{up16, down16, readop_of, readop_word_of, mem16_of, push_of, push_word_of, pop_of, pop_word_of, push_state_of, accept_of}
@@ -37,7 +37,7 @@ use Rattle.execution.specs.Completed.{of_completed, completed_accesses}
 use Rattle.execution.specs.Code.Shapes.{opcode_at, after_write, after_push_word, vector_accesses, accept_accesses, shape_accesses, place_shape, operand_shape, store_shape, change_number, shape_of, shape_in, shape_by, opcode_accesses, fetched_accesses, instruction_accesses, powered_accesses, step_accesses}
 use Rattle.execution.proofs.Listed.{past_rows}
 use Rattle.execution.proofs.Choices.{cond_both}
-use Rattle.execution.proofs.OpcodeRead.{fetch_does}
+use Rattle.execution.proofs.OpcodeRead.{fetch_answer, fetch_pages}
 use Rattle.execution.proofs.Ways.{moved}
 use Rattle.execution.proofs.Accesses.{step_accesses_lem}
 
@@ -76,7 +76,7 @@ module _ (m : Lh5801) (pages : Pages) where
 
 module _ (m : Lh5801) (byte : ℕ) (pages : Pages) where
   -- the byte of a place is read
-  operand_accesses : (place : Place) (f : CodeByte → Lh5801)
+  operand_accesses : (place : Place) (f : Code ℕ → Lh5801)
       → (exec (operand_of m place >>= (λ x. done (f x))) pages).accesses ≡ shape_accesses m pages byte (operand_shape place)
   unfolding operand_of readop_word_of readop_of read ◌>>=◌ exec after
   operand_accesses (InHalf h) f = refl
@@ -264,12 +264,11 @@ instruction_accesses_lem : (m : Lh5801) (inputs : Inputs) (pages : Pages) → co
 unfolding instruction_of instruction_accesses shape_by
 instruction_accesses_lem m inputs pages =
     let o : Fetched = opcode_at pages m.p in
-    let d : Does (fetch_of m.p) pages o pages = fetch_does pages m.p in
     rw (
       bind_answer (fetch_of m.p) (λ f. decoded_step_of m inputs f (decoded_by f.fd f.byte)) pages,
       bind_accesses (fetch_of m.p) (λ f. decoded_step_of m inputs f (decoded_by f.fd f.byte)) pages,
-      ← d.value,
-      d.pages,
+      fetch_answer pages m.p,
+      fetch_pages pages m.p,
       fetch_accesses pages m.p,
     )
     (decoded_accesses m inputs o (decoded_by o.fd o.byte) pages (opcode_accesses pages m.p o.fd) (has_shape_lem o.fd o.byte))

@@ -5,9 +5,9 @@ use Rattle.arithmetic.specs.Record.{with_p}
 use Rattle.arithmetic.proofs.Status.{Status, status_of, with_timer, SameTimes, keeps_p}
 use Rattle.pages.specs.Stack.{accept_of}
 use Rattle.pages.specs.Timer.{add_state_of, timer_part_of}
-use Rattle.pages.specs.Pages.{Pages}
+use Rattle.pages.specs.declared.Memory.{Memory}
 use Rattle.pages.specs.Prog.{Prog}
-use Rattle.pages.specs.Contract.{Does}
+use Rattle.pages.specs.Contract.{held, Does}
 use Rattle.pages.proofs.Always.{Always, always_exec}
 use Rattle.pages.proofs.Stack.{accept_times}
 use Rattle.pages.proofs.Timer.{timer_part_status, states_status, states_tm}
@@ -19,10 +19,10 @@ use Rattle.execution.specs.Code.Due.{Ready, settled_of}
 use Rattle.execution.proofs.Effects.{Effect, due_in, executed}
 
 -- what always holds of a program's answer holds of what it does
-does_always : (P : Lh5801 → Type 0) {k : Lh5801} {l q : Pages} (p : Prog Lh5801) → Always P p → Does p l k q → P k
-does_always P {l = l} p h d = subst P (sym d.value) (always_exec P p h l)
+does_always : (P : Lh5801 → Type 0) {k : Lh5801} {l q : Memory} (p : Prog Lh5801) → Always P p → Does p l k q → P k
+does_always P {l = l} p h d = subst P (sym d.value) (always_exec P p h (held l))
 
-module _ (m : Lh5801) (p : ℕ) (inputs : Inputs) (i : Instruction) (n : ℕ) {l q : Pages} {k : Lh5801} (d : Does (execute_of (with_p m p) inputs i) l k q) where
+module _ (m : Lh5801) (p : ℕ) (inputs : Inputs) (i : Instruction) (n : ℕ) {l q : Memory} {k : Lh5801} (d : Does (execute_of (with_p m p) inputs i) l k q) where
   after : Effect (with_p m p) (added_of (with_p m p) i) (settled_of i) k
   after = does_always _ (execute_of (with_p m p) inputs i) (executed (with_p m p) inputs i) d
 
@@ -47,7 +47,7 @@ timer_ready m h e =
     }
 
 -- what code knows: after a settled instruction and a timer part that did not reach 1FF an instruction is due again
-pub again : (m : Lh5801) (p : ℕ) (inputs : Inputs) (i : Instruction) (n : ℕ) {l q : Pages} {k now r : Lh5801}
+pub again : (m : Lh5801) (p : ℕ) (inputs : Inputs) (i : Instruction) (n : ℕ) {l q : Memory} {k now r : Lh5801}
     → settled_of i ≡ true
     → Ready m
     → Does (execute_of (with_p m p) inputs i) l k q
@@ -60,12 +60,12 @@ again m p inputs i n {k = k} {r = r} s h d e f c =
     subst Ready (sym z) (timer_ready (add_state_of k n) (states_ready m p inputs i n d s h) (subst (λ (x : Lh5801). x.is_timer_reached ≡ false) z c))
 
 -- and TM is at most 511 after an instruction, and after an accepted interrupt
-pub executed_small : (m : Lh5801) (p : ℕ) (inputs : Inputs) (i : Instruction) (n : ℕ) {l q : Pages} {k now : Lh5801}
+pub executed_small : (m : Lh5801) (p : ℕ) (inputs : Inputs) (i : Instruction) (n : ℕ) {l q : Memory} {k now : Lh5801}
     → m.tm < 512
     → Does (execute_of (with_p m p) inputs i) l k q
     → now ≡ add_state_of k n
     → now.tm < 512
 executed_small m p inputs i n h d e = subst (λ (x : Lh5801). x.tm < 512) (sym e) (states_small m p inputs i n d h)
 
-pub accept_small : (m : Lh5801) (vector : ℕ) {l q : Pages} {k : Lh5801} → m.tm < 512 → Does (accept_of m vector) l k q → k.tm < 512
+pub accept_small : (m : Lh5801) (vector : ℕ) {l q : Memory} {k : Lh5801} → m.tm < 512 → Does (accept_of m vector) l k q → k.tm < 512
 accept_small m vector h d = subst (λ (n : ℕ). n < 512) (sym (does_always (SameTimes m) (accept_of m vector) (accept_times m vector) d).tm) h

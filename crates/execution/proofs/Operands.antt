@@ -6,8 +6,8 @@ use Rattle.execution.specs.contracts.places.Register.{the_type}
 use Rattle.arithmetic.specs.declared.record.Lh5801.{Lh5801}
 use Rattle.arithmetic.specs.Record.{with_x, with_y, with_u}
 use Rattle.arithmetic.proofs.Status.{only_x, only_y, only_u}
-use Rattle.pages.specs.declared.CodeByte.{CodeByte}
-use Rattle.pages.specs.Pages.{Pages}
+use Rattle.pages.specs.declared.Code.{Code}
+use Rattle.pages.specs.declared.Memory.{Memory}
 use Rattle.pages.specs.Contract.{Does}
 use Rattle.pages.specs.Stack.{readop_word_of}
 use Rattle.pages.proofs.Exec.{bind_done}
@@ -63,12 +63,12 @@ operand_at_lem m (Fixed page) = bind_done (readop_word_of m.p) _ _
 operand_at_lem m InCode = refl
 
 -- what `locate` and `operand` do with the word that `word_at` gave
-pub does_locate : (m : Lh5801) (place : Place) {w : ℕ} {l n : Pages} {r : Located} → w ≡ word_in m (register_at place)
+pub does_locate : (m : Lh5801) (place : Place) {w : ℕ} {l n : Memory} {r : Located} → w ≡ word_in m (register_at place)
     → Does (locate_at w m.p place) l r n
     → Does (locate_of m place) l r n
 does_locate m place e d = rw (locate_at_lem m place) at (rw e at d)
 
-pub does_operand : (m : Lh5801) (place : Place) {w : ℕ} {l n : Pages} {r : CodeByte} → w ≡ word_in m (register_at place)
+pub does_operand : (m : Lh5801) (place : Place) {w : ℕ} {l n : Memory} {r : Code ℕ} → w ≡ word_in m (register_at place)
     → Does (operand_at w m.p place) l r n
     → Does (operand_of m place) l r n
 does_operand m place e d = rw (operand_at_lem m place) at (rw e at d)

@@ -7,7 +7,7 @@ use Rattle.arithmetic.specs.declared.Looped.{Looped}
 use Rattle.arithmetic.specs.Shifts.{looped_of}
 use Rattle.arithmetic.specs.Record.{with_u, with_p, with_ir1, with_ir2, with_is_timer_reached}
 use Rattle.arithmetic.specs.Flags.{IE, has_flag}
-use Rattle.pages.specs.Pages.{Pages}
+use Rattle.pages.specs.declared.Memory.{Memory}
 use Rattle.arithmetic.proofs.Status.{Status, requested, requested_back, requested_same, times_ir1, times_ir2}
 use Rattle.pages.specs.Prog.{done, mapped}
 use Rattle.pages.specs.Contract.{Does}
@@ -75,14 +75,14 @@ module _ (m : Lh5801) (inputs : Inputs) (on : m.bf ≡ true) (clear : m.is_timer
   unfolding step_of
   step_powered = cond_true _ _ _ on ∙ ap (λ (k : Lh5801). powered_of k inputs) (reached_stays m clear)
 
-  pub step_held : {p : Pages} {r : Lh5801} → m.ir0 ≡ true → r ≡ timer_part_of m → Does (mapped outcome_of (step_of m inputs)) p (Completed r) p
+  pub step_held : {p : Memory} {r : Lh5801} → m.ir0 ≡ true → r ≡ timer_part_of m → Does (mapped outcome_of (step_of m inputs)) p (Completed r) p
   unfolding powered_of
   step_held {r = r} a f =
       rw (step_powered, cond_true _ (done (did (timer_part_of m) 0 held)) _ a)
       (does_mapped outcome_of {r = did r 0 held} (does_done (ap (λ (x : Lh5801). did x 0 held) f)))
 
   module _ (e : Bool) (enabled : e ≡ has_flag m.t IE) (free : m.ir0 ≡ false) where
-    pub step_interrupt : {p q : Pages} {l k r : Lh5801} {vector : ℕ} → ((m.ir1 || m.ir2) && e) ≡ true
+    pub step_interrupt : {p q : Memory} {l k r : Lh5801} {vector : ℕ} → ((m.ir1 || m.ir2) && e) ≡ true
         → l ≡ cond m.ir1 (with_ir1 m false) (with_ir2 m false)
         → vector ≡ cond m.ir1 0xFFFA 0xFFF8
         → Does (accept_of l vector) p k q
@@ -102,10 +102,10 @@ module _ (m : Lh5801) (inputs : Inputs) (on : m.bf ≡ true) (clear : m.is_timer
           halting_step m inputs (record { on = on; halted = halted; free = free; none = none })
           ∙ ap (λ (k : Lh5801). done (halted_of k inputs)) (reached_stays m clear)
 
-      pub step_halted : {p : Pages} → inputs.idle ≡ 0 → Does (mapped outcome_of (step_of m inputs)) p (Stopped Halted) p
+      pub step_halted : {p : Memory} → inputs.idle ≡ 0 → Does (mapped outcome_of (step_of m inputs)) p (Stopped Halted) p
       step_halted z = rw (step_halting, halted_stops m inputs z) (does_mapped outcome_of {r = stopped Halted} (does_done refl))
 
-      pub step_waiting : {p : Pages} {r : Lh5801} → inputs.idle ≢ 0 → r ≡ timer_part_of (add_state_of m inputs.idle)
+      pub step_waiting : {p : Memory} {r : Lh5801} → inputs.idle ≢ 0 → r ≡ timer_part_of (add_state_of m inputs.idle)
           → Does (mapped outcome_of (step_of m inputs)) p (Completed r) p
       step_waiting {r = r} z f =
           rw (step_halting, halted_waits m inputs z)
@@ -161,7 +161,7 @@ module _ (m : Lh5801) where
 -- where an instruction is due, by what its byte decodes to
 module _ (m : Lh5801) (inputs : Inputs) (ready : Ready m) where
   -- listed: whether it is settled, and whether timer reached is set then, tell whether an instruction is due again
-  pub instruction_listed : {o : Fetched} {l p q : Pages} {i : Instruction} {n : ℕ} {k now r : Lh5801} {b t : Bool}
+  pub instruction_listed : {o : Fetched} {l p q : Memory} {i : Instruction} {n : ℕ} {k now r : Lh5801} {b t : Bool}
       → Does (fetch_of m.p) l o p
       → decoded_by o.fd o.byte ≡ Listed i n
       → Does (execute_of (with_p m o.p) inputs i) p k q
@@ -176,7 +176,7 @@ module _ (m : Lh5801) (inputs : Inputs) (ready : Ready m) where
       (does_mapped executed_of {r = did r (n + added_of m i) (instruction o.fd o.byte)}
       (does_then _ f (rw e (does_then _ x (does_done (ap (λ (k : Lh5801). did k (n + added_of m i) (instruction o.fd o.byte)) (z ∙ ap timer_part_of y)))))))
 
-  pub instruction_unlisted : {o : Fetched} {l p : Pages} {s : Stop}
+  pub instruction_unlisted : {o : Fetched} {l p : Memory} {s : Stop}
       → Does (fetch_of m.p) l o p
       → decoded_by o.fd o.byte ≡ Unlisted
       → s ≡ unlisted_by o.fd o.byte
@@ -199,12 +199,12 @@ executed_outcome (did m states waiting) = refl
 executed_outcome (did m states (instruction fd byte)) = cond_both (λ x. outcome_in x ≡ Completed m) (settled_by (decoded_by fd byte) && not m.is_timer_reached) _ _ refl refl
 executed_outcome (stopped s) = refl
 
-pub executed_step : (m : Lh5801) (inputs : Inputs) {p q : Pages} {r : Executed} → Does (mapped executed_of (step_of m inputs)) p r q
+pub executed_step : (m : Lh5801) (inputs : Inputs) {p q : Memory} {r : Executed} → Does (mapped executed_of (step_of m inputs)) p r q
     → Does (mapped outcome_of (step_of m inputs)) p (outcome_in r) q
 executed_step m inputs d = does_through executed_of outcome_of outcome_in executed_outcome (step_of m inputs) d
 
 -- a step with BF clear
-pub step_off : (m : Lh5801) (inputs : Inputs) {p : Pages} {r : Lh5801} → m.bf ≡ false → r ≡ add_state_of m 8 → Does (mapped outcome_of (step_of m inputs)) p (Completed r) p
+pub step_off : (m : Lh5801) (inputs : Inputs) {p : Memory} {r : Lh5801} → m.bf ≡ false → r ≡ add_state_of m 8 → Does (mapped outcome_of (step_of m inputs)) p (Completed r) p
 unfolding step_of
 step_off m inputs {r = r} e f =
     rw (cond_false _ (powered_of (reached_of m) inputs) (done (did (add_state_of m 8) 8 off)) e)

@@ -2,7 +2,7 @@
 use Rattle.std.specs.Prelude.{ℕ, ◌+◌, ◌*◌, ◌/◌, ◌%◌}
 use Rattle.arithmetic.specs.declared.record.Lh5801.{Lh5801}
 use Rattle.arithmetic.specs.Record.{with_x, with_y, with_u}
-use Rattle.pages.specs.declared.CodeByte.{CodeByte}
+use Rattle.pages.specs.declared.Code.{Code}
 use Rattle.pages.specs.Prog.{Prog, done, read, ◌>>=◌}
 use Rattle.pages.specs.Stack.{me1_of, readop_of, readop_word_of}
 use Rattle.execution.specs.declared.places.Register.{Register}
@@ -42,7 +42,7 @@ abbrev pub address_of : ℕ → Page → ℕ
 address_of w Me0 = w
 address_of w Me1 = me1_of w
 
-abbrev pub code_byte : ℕ → ℕ → CodeByte
+abbrev pub code_byte : ℕ → ℕ → Code ℕ
 code_byte b next = record { value = b; p = next }
 
 abbrev pub located : ℕ → ℕ → Located
@@ -59,7 +59,7 @@ locate_of m (Fixed page) = do
 locate_of m InCode = done (located 0 m.p)
 
 -- the byte of a place, and P after it was read
-unfoldable pub operand_of : Lh5801 → Place → Prog CodeByte
+unfoldable pub operand_of : Lh5801 → Place → Prog (Code ℕ)
 operand_of m (InHalf h) = done (code_byte (half_in m h) m.p)
 operand_of m (Pointer page r) = do
   b ← read (address_of (word_in m r) page)

@@ -27,7 +27,7 @@ fn holds(t: u8, c: Condition) -> bool
 fn backward(p: u16, offset: u8) -> u16
     ensures { result ≡ (p + (65536 - offset)) % 65536 }
 {
-    std::num::wrapping_sub_u16(p, offset as u16)
+    p.wrapping_sub(offset as u16)
 }
 
 // A taken branch; p is the address after the operand.
@@ -35,7 +35,7 @@ fn branched(cpu: Lh5801, p: u16, offset: u8, forward: bool) -> Lh5801
     ensures { result ≡ branched_of cpu p offset forward }
 {
     if forward {
-        let to = std::num::wrapping_add_u16(p, offset as u16);
+        let to = p.wrapping_add(offset as u16);
         pages::add_state(cpu.with_p(to), 2)
     } else {
         let to = backward(p, offset);
@@ -116,7 +116,7 @@ pub fn rti(cpu: Lh5801, memory: &Memory) -> Lh5801
     ensures { Reads (rti_of cpu) memory result }
 {
     let w = pages::pop_word(cpu.s, memory);
-    let s = std::num::wrapping_add_u16(w.s, 1);
+    let s = w.s.wrapping_add(1);
     let t = memory.read_byte(s as u32);
     cpu.with_p(w.value).with_s(s).with_t(t)
 }

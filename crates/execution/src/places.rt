@@ -6,7 +6,7 @@ ghost use Rattle.execution.specs.Code.Operands.{chosen, register_of, register_at
 
 use arithmetic::record::Lh5801;
 use pages::Memory;
-use pages::CodeByte;
+use pages::Code;
 
 #[derive(Clone, Copy)]
 pub enum Register {
@@ -167,24 +167,24 @@ pub fn word_at(cpu: Lh5801, place: Place) -> u16
 }
 
 // The byte of a place, and P after it was read. at is the word of its register.
-pub fn operand(at: u16, p: u16, memory: &Memory, place: Place) -> CodeByte
+pub fn operand(at: u16, p: u16, memory: &Memory, place: Place) -> Code<u8>
     ensures { Reads (operand_at at p place) memory result }
 {
     match place {
         Place::Pointer(page, r) => {
             let addr = paged(at, page);
             let b = memory.read_byte(addr);
-            CodeByte { value: b, p: p }
+            Code { value: b, p: p }
         }
         Place::Fixed(page) => {
             let l = fixed(p, memory, page);
             let b = memory.read_byte(l.addr);
-            CodeByte { value: b, p: l.p }
+            Code { value: b, p: l.p }
         }
         Place::InCode => memory.cpu_readop(p),
         Place::InHalf(h) => {
             let b = half_of(at, h);
-            CodeByte { value: b, p: p }
+            Code { value: b, p: p }
         }
     }
 }

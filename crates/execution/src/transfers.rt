@@ -14,14 +14,14 @@ pub fn inc_word(cpu: Lh5801, r: Register) -> Lh5801
     ensures { result ≡ inc_word_of cpu r }
 {
     let w = places::get_word(cpu, r);
-    places::set_word(cpu, r, std::num::wrapping_add_u16(w, 1))
+    places::set_word(cpu, r, w.wrapping_add(1))
 }
 
 pub fn dec_word(cpu: Lh5801, r: Register) -> Lh5801
     ensures { result ≡ dec_word_of cpu r }
 {
     let w = places::get_word(cpu, r);
-    places::set_word(cpu, r, std::num::wrapping_sub_u16(w, 1))
+    places::set_word(cpu, r, w.wrapping_sub(1))
 }
 
 // A to the byte that a pair points to.
@@ -80,8 +80,8 @@ pub fn tin(cpu: Lh5801, memory: &mut Memory) -> Lh5801
 {
     let b = memory.read_byte(cpu.x as u32);
     memory.write_byte(cpu.y as u32, b);
-    let x = std::num::wrapping_add_u16(cpu.x, 1);
-    let y = std::num::wrapping_add_u16(cpu.y, 1);
+    let x = cpu.x.wrapping_add(1);
+    let y = cpu.y.wrapping_add(1);
     cpu.with_x(x).with_y(y)
 }
 
@@ -90,7 +90,7 @@ pub fn cin(cpu: Lh5801, memory: &Memory) -> Lh5801
     ensures { Reads (cin_of cpu) memory result }
 {
     let b = memory.read_byte(cpu.x as u32);
-    let x = std::num::wrapping_add_u16(cpu.x, 1);
+    let x = cpu.x.wrapping_add(1);
     arithmetic::cpa(cpu.with_x(x), cpu.a, b)
 }
 
@@ -191,7 +191,7 @@ pub fn adr(cpu: Lh5801, r: Register) -> Lh5801
 pub fn cdv(cpu: Lh5801) -> Lh5801
     ensures { result ≡ cdv_of cpu }
 {
-    let now = std::num::wrapping_add_u64(cpu.timer_state, 8);
+    let now = cpu.timer_state.wrapping_add(8);
     cpu.with_step_previous_state(now)
 }
 
@@ -199,6 +199,6 @@ pub fn cdv(cpu: Lh5801) -> Lh5801
 pub fn drop_word(cpu: Lh5801) -> Lh5801
     ensures { result ≡ drop_word_of cpu }
 {
-    let s = std::num::wrapping_add_u16(cpu.s, 2);
+    let s = cpu.s.wrapping_add(2);
     cpu.with_s(s)
 }

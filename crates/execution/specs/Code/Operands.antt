@@ -1,7 +1,7 @@
 -- How the code is built, and need not be believed: proofs/Operands.antt shows that it is what Places.antt says.
 -- Operands on numbers: the word of a place's register is looked up first.
 use Rattle.std.specs.Prelude.{ℕ, ◌/◌, ◌%◌}
-use Rattle.pages.specs.declared.CodeByte.{CodeByte}
+use Rattle.pages.specs.declared.Code.{Code}
 use Rattle.pages.specs.Prog.{Prog, done, read, ◌>>=◌}
 use Rattle.pages.specs.Stack.{readop_of, readop_word_of}
 use Rattle.execution.specs.declared.places.Register.{Register}
@@ -50,7 +50,7 @@ locate_at w p (Pointer page r) = done (located (address_of w page) p)
 locate_at w p (Fixed page) = fixed_at p page
 locate_at w p InCode = done (located 0 p)
 
-unfoldable pub operand_at : ℕ → ℕ → Place → Prog CodeByte
+unfoldable pub operand_at : ℕ → ℕ → Place → Prog (Code ℕ)
 operand_at w p (InHalf h) = done (code_byte (half_of w h) p)
 operand_at w p (Pointer page r) = do
   b ← read (address_of w page)

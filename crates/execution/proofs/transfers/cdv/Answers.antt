@@ -3,4 +3,4 @@ use Rattle.execution.proofs.transfers.cdv.Goals as goal
 
 pub returns : goal.returns
 unfolding cdv_of
-returns c = rw (c.with_step_previous_state.ensures, c.wrapping_add_u64-now.ensures.value)
+returns c = rw (c.with_step_previous_state.ensures)

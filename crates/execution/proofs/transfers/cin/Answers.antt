@@ -4,4 +4,4 @@ use Rattle.execution.proofs.transfers.cin.Goals as goal
 
 pub returns : goal.returns
 unfolding cin_of
-returns c = does_then _ c.read_byte-b.ensures (does_done (rw (c.cpa.ensures, c.with_x.ensures, c.wrapping_add_u16-x.ensures.value)))
+returns c = does_then _ c.read_byte-b.ensures (does_done (rw (c.cpa.ensures, c.with_x.ensures)))

@@ -5,4 +5,4 @@ use Rattle.execution.proofs.transfers.dec_word.Goals as goal
 
 pub returns : goal.returns
 unfolding dec_word_of
-returns c = rw (c.set_word.ensures, down_only (search rules) c.wrapping_sub_u16.ensures.value, c.get_word-w.ensures)
+returns c = rw (c.set_word.ensures, c.get_word-w.ensures)

@@ -3,4 +3,4 @@ use Rattle.execution.proofs.transfers.drop_word.Goals as goal
 
 pub returns : goal.returns
 unfolding drop_word_of
-returns c = rw (c.with_s.ensures, c.wrapping_add_u16-s.ensures.value)
+returns c = rw (c.with_s.ensures)

@@ -3,4 +3,4 @@ use Rattle.execution.proofs.transfers.inc_word.Goals as goal
 
 pub returns : goal.returns
 unfolding inc_word_of
-returns c = rw (c.set_word.ensures, c.wrapping_add_u16.ensures.value, c.get_word-w.ensures)
+returns c = rw (c.set_word.ensures, c.get_word-w.ensures)

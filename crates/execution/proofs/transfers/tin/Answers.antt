@@ -7,4 +7,4 @@ unfolding tin_of
 returns c =
     does_then _ c.read_byte-b.ensures
     (does_then _ c.write_byte.ensures
-    (does_done (rw (c.with_y.ensures, c.with_x.ensures, c.wrapping_add_u16-y.ensures.value, c.wrapping_add_u16-x.ensures.value))))
+    (does_done (rw (c.with_y.ensures, c.with_x.ensures))))

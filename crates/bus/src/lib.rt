@@ -9,11 +9,17 @@ ghost use Rattle.pages.specs.Prog.{read_of, write_of};
 ghost use Rattle.pages.specs.Contract.{as_shared};
 ghost use Rattle.pages.specs.Stack.{up16, down16};
 ghost use Rattle.execution.specs.Code.Shapes.{opcode_at, bytes_from, code_word_at, push_word_accesses, after_write, after_push_word, push_and_vector_accesses, vector_accesses, accept_accesses, register_by, paged_by, changed_by, rotated_by, change_accesses, test_accesses, rotate_accesses, accesses_at, place_accesses, flag_by, holds_by, vector_if_accesses, tin_accesses, sjp_accesses, push_or_tin_accesses, shape_accesses, shape_by, opcode_accesses, instruction_accesses, powered_accesses};
-ghost use Rattle.bus.specs.Code.Notes.{most, Notes, NotesTo, NotesStep};
+ghost use Rattle.bus.specs.Code.Notes.{most, Notes, NotesTo, NotesStep, AppendsStep};
 
 use arithmetic::record::Lh5801;
-use pages::Memory;
 use execution::Fetched;
+use pages::Memory;
+
+// Document 02's bus log: a lent list of entries, and how many of them are used.
+pub struct BusLog<'a> {
+    pub entries: &'a mut [u32],
+    pub used: usize,
+}
 
 // The shape of each opcode, what is read and written after its own bytes: the first page's 256 opcodes, then those after FD.
 // Below 64: 8 times what is done at an address, and which address. What is done: 0 a read, 1 A stored, 2 ANI, 3 ORI, 4 ADI, 5 BII,
@@ -50,13 +56,13 @@ const SHAPES: [u8; 512] = [
 fn up(n: u16) -> u16
     ensures { result ≡ up16 n }
 {
-    std::num::wrapping_add_u16(n, 1)
+    n.wrapping_add(1)
 }
 
 fn down(n: u16) -> u16
     ensures { result ≡ down16 n }
 {
-    std::num::wrapping_sub_u16(n, 1)
+    n.wrapping_sub(1)
 }
 
 // Past the log's end an entry is dropped.
@@ -156,11 +162,7 @@ fn after_write(memory: &Memory, s: u16, v: u8, addr: u32, b: u8) -> u8
     ensures { result ≡ after_write (as_shared memory) s v addr b }
 {
     if addr == s as u32 {
-        if is_stored(memory, s as u32) {
-            v
-        } else {
-            b
-        }
+        if is_stored(memory, s as u32) { v } else { b }
     } else {
         b
     }
@@ -201,14 +203,7 @@ fn note_push_and_vector(
 }
 
 // A vector taken, by its number.
-fn note_vector(
-    memory: &Memory,
-    log: &mut [u32],
-    at: usize,
-    s: u16,
-    w: u16,
-    nr: u8,
-) -> usize
+fn note_vector(memory: &Memory, log: &mut [u32], at: usize, s: u16, w: u16, nr: u8) -> usize
     requires { at ≤ most + 3 }
     ensures { NotesTo (vector_accesses (as_shared memory) s w nr) log at result }
 {
@@ -244,11 +239,7 @@ fn changed(n: u8, b: u8, v: u8) -> u8
     if n == 2 {
         b & v
     } else {
-        if n == 3 {
-            b | v
-        } else {
-            std::num::wrapping_add_u8(b, v)
-        }
+        if n == 3 { b | v } else { b.wrapping_add(v) }
     }
 }
 
@@ -264,14 +255,7 @@ fn rotated(n: u8, a: u8, b: u8) -> u8
 }
 
 // ANI, ORI and ADI: the immediate at p, the memory byte, the write.
-fn note_change(
-    memory: &Memory,
-    log: &mut [u32],
-    at: usize,
-    n: u8,
-    addr: u32,
-    p: u16,
-) -> usize
+fn note_change(memory: &Memory, log: &mut [u32], at: usize, n: u8, addr: u32, p: u16) -> usize
     requires { at ≤ most + 4 }
     ensures { NotesTo (change_accesses (as_shared memory) n addr p) log at result }
 {
@@ -295,14 +279,7 @@ fn note_test(memory: &Memory, log: &mut [u32], at: usize, addr: u32, p: u16) -> 
 }
 
 // DRR and DRL: the memory byte, the write.
-fn note_rotate(
-    memory: &Memory,
-    log: &mut [u32],
-    at: usize,
-    n: u8,
-    addr: u32,
-    a: u8,
-) -> usize
+fn note_rotate(memory: &Memory, log: &mut [u32], at: usize, n: u8, addr: u32, a: u8) -> usize
     requires { at ≤ most + 4 }
     ensures { NotesTo (rotate_accesses (as_shared memory) n addr a) log at result }
 {
@@ -389,13 +366,7 @@ fn holds(t: u8, c: u8) -> bool
 }
 
 // The vector's number in the code, and where the condition holds, the vector.
-fn note_vector_if(
-    cpu: Lh5801,
-    memory: &Memory,
-    log: &mut [u32],
-    at: usize,
-    c: u8,
-) -> usize
+fn note_vector_if(cpu: Lh5801, memory: &Memory, log: &mut [u32], at: usize, c: u8) -> usize
     requires { at ≤ most + 2 }
     ensures { NotesTo (vector_if_accesses cpu (as_shared memory) c) log at result }
 {
@@ -464,14 +435,7 @@ fn note_push_or_tin(
 }
 
 // What follows the opcode, by its shape; P stands after the opcode.
-fn note_shape(
-    cpu: Lh5801,
-    memory: &Memory,
-    log: &mut [u32],
-    at: usize,
-    opcode: u8,
-    n: u8,
-) -> usize
+fn note_shape(cpu: Lh5801, memory: &Memory, log: &mut [u32], at: usize, opcode: u8, n: u8) -> usize
     requires { at ≤ most + 2 }
     ensures { NotesTo (shape_accesses cpu (as_shared memory) opcode n) log at result }
 {
@@ -551,13 +515,7 @@ fn note_instruction(cpu: Lh5801, memory: &Memory, log: &mut [u32], at: usize) ->
 }
 
 // An accepted interrupt: T pushed, P pushed, and the vector read.
-fn note_accept(
-    cpu: Lh5801,
-    memory: &Memory,
-    log: &mut [u32],
-    at: usize,
-    vector: u16,
-) -> usize
+fn note_accept(cpu: Lh5801, memory: &Memory, log: &mut [u32], at: usize, vector: u16) -> usize
     requires { at ≤ most }
     ensures { NotesTo (accept_accesses cpu (as_shared memory) vector) log at result }
 {
@@ -572,13 +530,7 @@ fn note_accept(
 }
 
 // With BF set; first says that IR1 is set or the timer reached.
-fn note_powered(
-    cpu: Lh5801,
-    memory: &Memory,
-    log: &mut [u32],
-    at: usize,
-    first: bool,
-) -> usize
+fn note_powered(cpu: Lh5801, memory: &Memory, log: &mut [u32], at: usize, first: bool) -> usize
     requires { at ≤ most }
     ensures { NotesTo (powered_accesses cpu (as_shared memory) first) log at result }
 {
@@ -599,9 +551,8 @@ fn note_powered(
     note_instruction(cpu, memory, log, at)
 }
 
-// The entries of the coming step's accesses, from a place of the log on, if the step is completed; none if it stops. The place after them is
-// returned. The step's inputs do not matter.
-pub fn note_step(cpu: Lh5801, memory: &Memory, log: &mut [u32], at: usize) -> usize
+// The entries of the coming step's accesses, from a place on, and the place after them.
+fn note_step_at(cpu: Lh5801, memory: &Memory, log: &mut [u32], at: usize) -> usize
     requires { at ≤ most }
     ensures { NotesStep cpu memory log at result }
 {
@@ -611,4 +562,12 @@ pub fn note_step(cpu: Lh5801, memory: &Memory, log: &mut [u32], at: usize) -> us
     } else {
         at
     }
+}
+
+// The entries of the coming step's accesses are appended, if the step is completed; none if it stops. The step's inputs do not matter.
+pub fn note_step(cpu: Lh5801, memory: &Memory, log: &mut BusLog)
+    requires { log.old.used ≤ most }
+    ensures { AppendsStep cpu memory log }
+{
+    log.used = note_step_at(cpu, memory, log.entries, log.used);
 }

@@ -76,12 +76,7 @@ pub enum Outcome {
 }
 
 #[tactic(auto, unfolding(crate::specs::Instructions::execute_of))]
-pub fn execute(
-    cpu: Lh5801,
-    memory: &mut Memory,
-    inputs: Inputs,
-    i: Instruction,
-) -> Lh5801
+pub fn execute(cpu: Lh5801, memory: &mut Memory, inputs: Inputs, i: Instruction) -> Lh5801
     ensures { Changes (execute_of cpu inputs i) memory result }
 {
     match i {

@@ -5,8 +5,7 @@ ghost use Rattle.execution.specs.Places.{word_in, with_word, half_in, with_half,
 ghost use Rattle.execution.specs.Code.Operands.{chosen, register_of, register_at, half_of, fixed_at, locate_at, operand_at};
 
 use arithmetic::record::Lh5801;
-use pages::Memory;
-use pages::Code;
+use pages::{Code, Memory};
 
 #[derive(Clone, Copy)]
 pub enum Register {

@@ -8,4 +8,4 @@ pub returns-then-n-eq3 : goal.returns-then-n-eq3
 returns-then-n-eq3 c = rw (ne_eqb _ 2 c.if-n-eq2.false, eq-eqb _ 3 c.if-n-eq3.true)
 
 pub returns-else-n-eq3 : goal.returns-else-n-eq3
-returns-else-n-eq3 c = rw (ne_eqb _ 2 c.if-n-eq2.false, ne_eqb _ 3 c.if-n-eq3.false) (rw (c.wrapping_add_u8.ensures.value, add-zero))
+returns-else-n-eq3 c = rw (ne_eqb _ 2 c.if-n-eq2.false, ne_eqb _ 3 c.if-n-eq3.false) (rw add-zero)

@@ -2,7 +2,7 @@
 ghost use Rattle.std.specs.Prelude.{◌≡◌};
 ghost use Rattle.arithmetic.specs.Record.{with_a, with_t, with_x, with_y, with_u, with_s, with_p, with_is_halted, with_pu, with_pv, with_bf, with_disp, with_tm, with_ir0, with_ir1, with_ir2, with_is_timer_reached, with_timer_state, with_step_previous_state, with_ticks};
 
-#[derive(Clone, Copy)]
+#[derive(Clone, Copy, Default, PartialEq, Eq)]
 pub struct Lh5801 {
     // accumulator
     pub a: u8,
@@ -71,6 +71,7 @@ impl Lh5801 {
         }
     }
 
+    #[tactic(auto, unfolding(crate::specs::Record::with_a))]
     pub fn with_a(self, v: u8) -> Self
         ensures { result ≡ with_a self v }
     {
@@ -79,6 +80,7 @@ impl Lh5801 {
         r
     }
 
+    #[tactic(auto, unfolding(crate::specs::Record::with_t))]
     pub fn with_t(self, v: u8) -> Self
         ensures { result ≡ with_t self v }
     {
@@ -87,6 +89,7 @@ impl Lh5801 {
         r
     }
 
+    #[tactic(auto, unfolding(crate::specs::Record::with_x))]
     pub fn with_x(self, v: u16) -> Self
         ensures { result ≡ with_x self v }
     {
@@ -95,6 +98,7 @@ impl Lh5801 {
         r
     }
 
+    #[tactic(auto, unfolding(crate::specs::Record::with_y))]
     pub fn with_y(self, v: u16) -> Self
         ensures { result ≡ with_y self v }
     {
@@ -103,6 +107,7 @@ impl Lh5801 {
         r
     }
 
+    #[tactic(auto, unfolding(crate::specs::Record::with_u))]
     pub fn with_u(self, v: u16) -> Self
         ensures { result ≡ with_u self v }
     {
@@ -111,6 +116,7 @@ impl Lh5801 {
         r
     }
 
+    #[tactic(auto, unfolding(crate::specs::Record::with_s))]
     pub fn with_s(self, v: u16) -> Self
         ensures { result ≡ with_s self v }
     {
@@ -119,6 +125,7 @@ impl Lh5801 {
         r
     }
 
+    #[tactic(auto, unfolding(crate::specs::Record::with_p))]
     pub fn with_p(self, v: u16) -> Self
         ensures { result ≡ with_p self v }
     {
@@ -127,6 +134,7 @@ impl Lh5801 {
         r
     }
 
+    #[tactic(auto, unfolding(crate::specs::Record::with_is_halted))]
     pub fn with_is_halted(self, v: bool) -> Self
         ensures { result ≡ with_is_halted self v }
     {
@@ -135,6 +143,7 @@ impl Lh5801 {
         r
     }
 
+    #[tactic(auto, unfolding(crate::specs::Record::with_pu))]
     pub fn with_pu(self, v: bool) -> Self
         ensures { result ≡ with_pu self v }
     {
@@ -143,6 +152,7 @@ impl Lh5801 {
         r
     }
 
+    #[tactic(auto, unfolding(crate::specs::Record::with_pv))]
     pub fn with_pv(self, v: bool) -> Self
         ensures { result ≡ with_pv self v }
     {
@@ -151,6 +161,7 @@ impl Lh5801 {
         r
     }
 
+    #[tactic(auto, unfolding(crate::specs::Record::with_bf))]
     pub fn with_bf(self, v: bool) -> Self
         ensures { result ≡ with_bf self v }
     {
@@ -159,6 +170,7 @@ impl Lh5801 {
         r
     }
 
+    #[tactic(auto, unfolding(crate::specs::Record::with_disp))]
     pub fn with_disp(self, v: bool) -> Self
         ensures { result ≡ with_disp self v }
     {
@@ -167,6 +179,7 @@ impl Lh5801 {
         r
     }
 
+    #[tactic(auto, unfolding(crate::specs::Record::with_tm))]
     pub fn with_tm(self, v: u16) -> Self
         ensures { result ≡ with_tm self v }
     {
@@ -175,6 +188,7 @@ impl Lh5801 {
         r
     }
 
+    #[tactic(auto, unfolding(crate::specs::Record::with_ir0))]
     pub fn with_ir0(self, v: bool) -> Self
         ensures { result ≡ with_ir0 self v }
     {
@@ -183,6 +197,7 @@ impl Lh5801 {
         r
     }
 
+    #[tactic(auto, unfolding(crate::specs::Record::with_ir1))]
     pub fn with_ir1(self, v: bool) -> Self
         ensures { result ≡ with_ir1 self v }
     {
@@ -191,6 +206,7 @@ impl Lh5801 {
         r
     }
 
+    #[tactic(auto, unfolding(crate::specs::Record::with_ir2))]
     pub fn with_ir2(self, v: bool) -> Self
         ensures { result ≡ with_ir2 self v }
     {
@@ -199,6 +215,7 @@ impl Lh5801 {
         r
     }
 
+    #[tactic(auto, unfolding(crate::specs::Record::with_is_timer_reached))]
     pub fn with_is_timer_reached(self, v: bool) -> Self
         ensures { result ≡ with_is_timer_reached self v }
     {
@@ -207,6 +224,7 @@ impl Lh5801 {
         r
     }
 
+    #[tactic(auto, unfolding(crate::specs::Record::with_timer_state))]
     pub fn with_timer_state(self, v: u64) -> Self
         ensures { result ≡ with_timer_state self v }
     {
@@ -215,6 +233,7 @@ impl Lh5801 {
         r
     }
 
+    #[tactic(auto, unfolding(crate::specs::Record::with_step_previous_state))]
     pub fn with_step_previous_state(self, v: u64) -> Self
         ensures { result ≡ with_step_previous_state self v }
     {
@@ -223,6 +242,7 @@ impl Lh5801 {
         r
     }
 
+    #[tactic(auto, unfolding(crate::specs::Record::with_ticks))]
     pub fn with_ticks(self, v: u64) -> Self
         ensures { result ≡ with_ticks self v }
     {

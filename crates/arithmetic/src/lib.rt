@@ -12,6 +12,7 @@ use crate::record::Lh5801;
 
 pub mod record;
 
+// Masks and no enum: get_flag and set_flag take any mask.
 pub const CF: u8 = 0x01;
 
 pub const IE: u8 = 0x02;
@@ -23,21 +24,21 @@ pub const VF: u8 = 0x08;
 pub const HF: u8 = 0x10;
 
 // A result of 8 or 16 bits with the T that goes with it.
-#[derive(Clone, Copy, PartialEq, Eq)]
+#[derive(Clone, Copy, Debug, PartialEq, Eq)]
 pub struct Sum<T> {
     pub value: T,
     pub t: u8,
 }
 
 // A and the memory byte after a move of digits.
-#[derive(Clone, Copy, PartialEq, Eq)]
+#[derive(Clone, Copy, Debug, PartialEq, Eq)]
 pub struct Moved {
     pub a: u8,
     pub byte: u8,
 }
 
-// U after LOP has counted UL down, and whether it branches.
-#[derive(Clone, Copy, PartialEq, Eq)]
+// U after LOP has counted UL down, and whether it branches: no Option, since U changes either way.
+#[derive(Clone, Copy, Debug, PartialEq, Eq)]
 pub struct Looped {
     pub u: u16,
     pub again: bool,
@@ -63,7 +64,7 @@ pub fn check_z(t: u8, value: u8) -> u8
     set_flag(t, ZF, value == 0)
 }
 
-// T with C, Z, V and H as given; its upper three bits and IE are kept.
+// T with C, Z, V and H as given; its upper three bits and IE are kept. A sum, since masks and `|` take more machine instructions.
 #[tactic(auto, unfolding(crate::specs::Flags::with_flags))]
 fn set_flags(t: u8, c: bool, z: bool, v: bool, h: bool) -> u8
     ensures { result ≡ with_flags t c z v h }
@@ -71,7 +72,7 @@ fn set_flags(t: u8, c: bool, z: bool, v: bool, h: bool) -> u8
     t / 32 * 32 + u8::from(h) * 16 + u8::from(v) * 8 + u8::from(z) * 4 + t / 2 % 2 * 2 + u8::from(c)
 }
 
-// V of a sum: both operands differ from the result in bit 7.
+// V of a sum: both operands differ from the result in bit 7. By `^` and `&`, since two `!=` take more machine instructions.
 fn overflow(left: u8, right: u8, res: u8) -> bool
     ensures { result ≡ overflow_of left right res }
 {
@@ -93,7 +94,7 @@ pub fn add_generic(t: u8, left: u8, right: u8, carry: bool) -> Sum<u8>
     }
 }
 
-// A and T from a sum.
+// A and T from a sum. Below, each instruction is a function of its name, over what it shares with others.
 fn with_sum(cpu: Lh5801, s: Sum<u8>) -> Lh5801
     ensures { result ≡ with_sum cpu s }
 {

@@ -1,8 +1,10 @@
 // The record of the LH5801: the fields of the Rust's `Lh5801` that document 01 keeps, by value.
+#![tactic(auto, unfolding(crate::specs::Record::with_a, crate::specs::Record::with_t, crate::specs::Record::with_x, crate::specs::Record::with_y, crate::specs::Record::with_u, crate::specs::Record::with_s, crate::specs::Record::with_p, crate::specs::Record::with_is_halted, crate::specs::Record::with_pu, crate::specs::Record::with_pv, crate::specs::Record::with_bf, crate::specs::Record::with_disp, crate::specs::Record::with_tm, crate::specs::Record::with_ir0, crate::specs::Record::with_ir1, crate::specs::Record::with_ir2, crate::specs::Record::with_is_timer_reached, crate::specs::Record::with_timer_state, crate::specs::Record::with_step_previous_state, crate::specs::Record::with_ticks))]
+
 ghost use Rattle.std.specs.Prelude.{◌≡◌};
 ghost use Rattle.arithmetic.specs.Record.{with_a, with_t, with_x, with_y, with_u, with_s, with_p, with_is_halted, with_pu, with_pv, with_bf, with_disp, with_tm, with_ir0, with_ir1, with_ir2, with_is_timer_reached, with_timer_state, with_step_previous_state, with_ticks};
 
-#[derive(Clone, Copy, Default, PartialEq, Eq)]
+#[derive(Clone, Copy, Debug, Default, PartialEq, Eq)]
 pub struct Lh5801 {
     // accumulator
     pub a: u8,
@@ -43,7 +45,8 @@ pub struct Lh5801 {
 
 impl Lh5801 {
     // The same record, field by field. A setter that starts from here keeps the fields in registers:
-    // a whole copy with one store after it would go through memory (docs/DECISIONS.md).
+    // a whole copy with one store after it would go through memory (docs/DECISIONS.md). A parameter cannot
+    // name a field, so each has a setter of its own.
     fn each(self) -> Self
         ensures { result ≡ self }
     {
@@ -71,7 +74,6 @@ impl Lh5801 {
         }
     }
 
-    #[tactic(auto, unfolding(crate::specs::Record::with_a))]
     pub fn with_a(self, v: u8) -> Self
         ensures { result ≡ with_a self v }
     {
@@ -80,7 +82,6 @@ impl Lh5801 {
         r
     }
 
-    #[tactic(auto, unfolding(crate::specs::Record::with_t))]
     pub fn with_t(self, v: u8) -> Self
         ensures { result ≡ with_t self v }
     {
@@ -89,7 +90,6 @@ impl Lh5801 {
         r
     }
 
-    #[tactic(auto, unfolding(crate::specs::Record::with_x))]
     pub fn with_x(self, v: u16) -> Self
         ensures { result ≡ with_x self v }
     {
@@ -98,7 +98,6 @@ impl Lh5801 {
         r
     }
 
-    #[tactic(auto, unfolding(crate::specs::Record::with_y))]
     pub fn with_y(self, v: u16) -> Self
         ensures { result ≡ with_y self v }
     {
@@ -107,7 +106,6 @@ impl Lh5801 {
         r
     }
 
-    #[tactic(auto, unfolding(crate::specs::Record::with_u))]
     pub fn with_u(self, v: u16) -> Self
         ensures { result ≡ with_u self v }
     {
@@ -116,7 +114,6 @@ impl Lh5801 {
         r
     }
 
-    #[tactic(auto, unfolding(crate::specs::Record::with_s))]
     pub fn with_s(self, v: u16) -> Self
         ensures { result ≡ with_s self v }
     {
@@ -125,7 +122,6 @@ impl Lh5801 {
         r
     }
 
-    #[tactic(auto, unfolding(crate::specs::Record::with_p))]
     pub fn with_p(self, v: u16) -> Self
         ensures { result ≡ with_p self v }
     {
@@ -134,7 +130,6 @@ impl Lh5801 {
         r
     }
 
-    #[tactic(auto, unfolding(crate::specs::Record::with_is_halted))]
     pub fn with_is_halted(self, v: bool) -> Self
         ensures { result ≡ with_is_halted self v }
     {
@@ -143,7 +138,6 @@ impl Lh5801 {
         r
     }
 
-    #[tactic(auto, unfolding(crate::specs::Record::with_pu))]
     pub fn with_pu(self, v: bool) -> Self
         ensures { result ≡ with_pu self v }
     {
@@ -152,7 +146,6 @@ impl Lh5801 {
         r
     }
 
-    #[tactic(auto, unfolding(crate::specs::Record::with_pv))]
     pub fn with_pv(self, v: bool) -> Self
         ensures { result ≡ with_pv self v }
     {
@@ -161,7 +154,6 @@ impl Lh5801 {
         r
     }
 
-    #[tactic(auto, unfolding(crate::specs::Record::with_bf))]
     pub fn with_bf(self, v: bool) -> Self
         ensures { result ≡ with_bf self v }
     {
@@ -170,7 +162,6 @@ impl Lh5801 {
         r
     }
 
-    #[tactic(auto, unfolding(crate::specs::Record::with_disp))]
     pub fn with_disp(self, v: bool) -> Self
         ensures { result ≡ with_disp self v }
     {
@@ -179,7 +170,6 @@ impl Lh5801 {
         r
     }
 
-    #[tactic(auto, unfolding(crate::specs::Record::with_tm))]
     pub fn with_tm(self, v: u16) -> Self
         ensures { result ≡ with_tm self v }
     {
@@ -188,7 +178,6 @@ impl Lh5801 {
         r
     }
 
-    #[tactic(auto, unfolding(crate::specs::Record::with_ir0))]
     pub fn with_ir0(self, v: bool) -> Self
         ensures { result ≡ with_ir0 self v }
     {
@@ -197,7 +186,6 @@ impl Lh5801 {
         r
     }
 
-    #[tactic(auto, unfolding(crate::specs::Record::with_ir1))]
     pub fn with_ir1(self, v: bool) -> Self
         ensures { result ≡ with_ir1 self v }
     {
@@ -206,7 +194,6 @@ impl Lh5801 {
         r
     }
 
-    #[tactic(auto, unfolding(crate::specs::Record::with_ir2))]
     pub fn with_ir2(self, v: bool) -> Self
         ensures { result ≡ with_ir2 self v }
     {
@@ -215,7 +202,6 @@ impl Lh5801 {
         r
     }
 
-    #[tactic(auto, unfolding(crate::specs::Record::with_is_timer_reached))]
     pub fn with_is_timer_reached(self, v: bool) -> Self
         ensures { result ≡ with_is_timer_reached self v }
     {
@@ -224,7 +210,6 @@ impl Lh5801 {
         r
     }
 
-    #[tactic(auto, unfolding(crate::specs::Record::with_timer_state))]
     pub fn with_timer_state(self, v: u64) -> Self
         ensures { result ≡ with_timer_state self v }
     {
@@ -233,7 +218,6 @@ impl Lh5801 {
         r
     }
 
-    #[tactic(auto, unfolding(crate::specs::Record::with_step_previous_state))]
     pub fn with_step_previous_state(self, v: u64) -> Self
         ensures { result ≡ with_step_previous_state self v }
     {
@@ -242,7 +226,6 @@ impl Lh5801 {
         r
     }
 
-    #[tactic(auto, unfolding(crate::specs::Record::with_ticks))]
     pub fn with_ticks(self, v: u64) -> Self
         ensures { result ≡ with_ticks self v }
     {

@@ -53,7 +53,7 @@ pub fn sta(cpu: Lh5801, page0: &mut [u8], page1: &mut [u8], place: Place) -> Lh5
 }
 
 // A memory byte with an immediate, and T.
-fn changed(t: u8, o: Change, byte: u8, v: u8) -> arithmetic::Sum
+fn changed(t: u8, o: Change, byte: u8, v: u8) -> arithmetic::Sum<u8>
     ensures { result ≡ changed_of t o byte v }
 {
     match o {

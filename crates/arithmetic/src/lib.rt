@@ -69,7 +69,12 @@ pub fn check_z(t: u8, value: u8) -> u8
 fn set_flags(t: u8, c: bool, z: bool, v: bool, h: bool) -> u8
     ensures { result ≡ with_flags t c z v h }
 {
-    t / 32 * 32 + u8::from(h) * 16 + u8::from(v) * 8 + u8::from(z) * 4 + t / 2 % 2 * 2 + u8::from(c)
+    t / 32 * 32
+        + u8::from(h) * HF
+        + u8::from(v) * VF
+        + u8::from(z) * ZF
+        + t / 2 % 2 * IE
+        + u8::from(c) * CF
 }
 
 // V of a sum: both operands differ from the result in bit 7. By `^` and `&`, since two `!=` take more machine instructions.
@@ -79,7 +84,7 @@ fn overflow(left: u8, right: u8, res: u8) -> bool
     (left / 128 ^ res / 128) & (right / 128 ^ res / 128) != 0
 }
 
-#[tactic(auto, unfolding(crate::specs::Sums::add_of, crate::specs::Flags::with_flags))]
+#[tactic(auto, unfolding(crate::specs::Sums::add_of))]
 pub fn add_generic(t: u8, left: u8, right: u8, carry: bool) -> Sum<u8>
     ensures { result ≡ add_of t left right carry }
 {

@@ -10,6 +10,7 @@ use arithmetic::record::Lh5801;
 use arithmetic::{Moved, Sum};
 
 // A record with this A and T, and nothing else set.
+#[tactic(auto, unfolding(crate::specs::Answers::blank_of))]
 fn blank(a: u8, t: u8) -> Lh5801
     ensures { result ≡ blank_of a t }
 {

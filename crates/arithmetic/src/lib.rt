@@ -95,7 +95,7 @@ pub fn add_generic(t: u8, left: u8, right: u8, carry: bool) -> Sum<u8>
     let v = overflow(left, right, low);
     Sum {
         value: low,
-        t: set_flags(t, 256 <= sum, low == 0, v, 16 <= half),
+        t: set_flags(t, sum & 0x100 != 0, low == 0, v, half & 0x10 != 0),
     }
 }
 

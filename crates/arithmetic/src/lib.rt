@@ -237,16 +237,12 @@ pub fn dec(t: u8, value: u8) -> Sum<u8>
     add_generic(t, value, 0xff, false)
 }
 
-// R + A, and T as it was.
-#[tactic(auto, unfolding(crate::specs::Sums::adr_of))]
+// R + A, and T as it was. Document 01's two sums of bytes are this one of 16 bits, by adr_sum.
+#[tactic(auto, using(crate::proofs::Flags::adr_sum), unfolding(crate::specs::Sums::adr_of))]
 pub fn adr(t: u8, reg: u16, a: u8) -> Sum<u16>
     ensures { result ≡ adr_of t reg a }
 {
-    let [high, low] = reg.to_be_bytes();
-    let rl = add_generic(t, low, a, false);
-    let c = get_flag(rl.t, CF);
-    let rh = high.wrapping_add(u8::from(c));
-    let sum = u16::from_be_bytes([rh, rl.value]);
+    let sum = reg.wrapping_add(u16::from(a));
     Sum { value: sum, t }
 }
 

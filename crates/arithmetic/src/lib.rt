@@ -64,7 +64,7 @@ pub fn check_z(t: u8, value: u8) -> u8
     set_flag(t, ZF, value == 0)
 }
 
-// T with C, Z, V and H as given; its upper three bits and IE are kept. A sum, since masks and `|` take more machine instructions.
+// T with C, Z, V and H as given; its upper three bits and IE are kept. A sum as the definition's, so that no law of bits is needed.
 #[tactic(auto, unfolding(crate::specs::Flags::with_flags))]
 fn set_flags(t: u8, c: bool, z: bool, v: bool, h: bool) -> u8
     ensures { result ≡ with_flags t c z v h }

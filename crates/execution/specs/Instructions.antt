@@ -69,7 +69,7 @@ sta_of m (Fixed page) = store_of m (Fixed page)
 sta_of m InCode = store_of m InCode
 
 -- a memory byte with an immediate, and T: ANI, ORI and ADI
-abbrev pub changed_of : ℕ → Change → ℕ → ℕ → Sum
+abbrev pub changed_of : ℕ → Change → ℕ → ℕ → Sum ℕ
 changed_of t Ani b v = record { value = bit_and b v; t = check_z t (bit_and b v) }
 changed_of t Ori b v = record { value = bit_or b v; t = check_z t (bit_or b v) }
 changed_of t Adi b v = add_of t b v false

@@ -33,10 +33,10 @@ pub struct Popped {
 fn byte_at(page: &[u8], at: usize) -> u8
     ensures { result ≡ slice_index_or page.now at 255 }
 {
-    if at < page.len() { page[at] } else { 255 }
+    page.get(at).copied().unwrap_or(255)
 }
 
-// A write past the end is dropped.
+// A write past the end is dropped. By `get_mut` its proof needed more than the test does.
 fn put_at(page: &mut [u8], at: usize, v: u8)
     ensures { page.new ≡ slice_set page.old at v }
 {

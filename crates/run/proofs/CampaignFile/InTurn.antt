@@ -9,20 +9,6 @@ use Rattle.run.specs.declared.campaign_file.PagePlace.{PagePlace}
 use Rattle.run.specs.declared.campaign_file.Parsed.{Parsed}
 use Rattle.run.proofs.CampaignFile.Number.{never, read_same, number_within}
 
--- ---- the code's answers
-
--- what an answer that is known says of the field that it stands for
-pub record Was {A X : Type 0} (field : X → Field A) {f : Field A} {x y : X} (e : f ≡ field x) (known : x ≡ y) : Type 0 where
-  pub is : f ≡ field y
-
-pub was : {A X : Type 0} (field : X → Field A) {f : Field A} {x y : X} (e : f ≡ field x) (known : x ≡ y) → Was field e known
-was field e known = record { is = e ∙ ap field known }
-
--- the refusal that is handed upward is the field's
-pub refusal_handed : {A X : Type 0} (field : X → Field A) (stop : X → Refusal) {f : Field A} {x y : X} {r : Refusal} → f ≡ field x → x ≡ y → r ≡ stop x
-    → field y ≡ refused (stop y) → f ≡ refused r
-refusal_handed field stop e is handed at = e ∙ ap field is ∙ at ∙ ap refused (sym (handed ∙ ap stop is))
-
 -- ---- numbers in turn, as the loop of `Cursor::numbers` reads them
 
 -- values that were read, in front of the others

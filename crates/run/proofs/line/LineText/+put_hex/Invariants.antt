@@ -1,4 +1,4 @@
-use Rattle.run.proofs.line.+put_hex.Given as goal
+use Rattle.run.proofs.line.LineText.+put_hex.Given as goal
 
 -- each call has a smaller digits
 abbrev pub decreases-put_hex : goal.decreases-put_hex

@@ -1,8 +1,6 @@
 -- Laws of the printed line: one piece after another, and the digits of a number.
-use Rattle.std.proofs.Common.{◌≡◌, ℕ, zero, suc, ◌+◌, ◌-◌, ◌*◌, ◌/◌, ◌%◌, ◌^◌, ◌<◌, ◌≤◌, Bool, true, false, cond, ltb, List, [], ◌∷◌, ◌++◌, length, drop, set, sym, refl, ap, ◌∙◌, ⊎_elim, append_assoc, append-nil, add-zero, pow-suc, arith, length-append, take_at, drop_at, le-ltb, lt-ltb}
-use lib.Seq.{sets, length-sets, sets-eq}
-use Rattle.arithmetic.specs.declared.record.Lh5801.{Lh5801}
-use Rattle.run.specs.Line.{space, decimal_digits, decimal_of, hex_digit, hex_of, joined, count_fields, register_fields, counter_fields, Printed}
+use Rattle.std.proofs.Common.{◌≡◌, ℕ, zero, suc, ◌+◌, ◌-◌, ◌*◌, ◌/◌, ◌%◌, ◌^◌, ◌<◌, ◌≤◌, Bool, true, false, cond, ltb, List, [], ◌∷◌, ◌++◌, length, sym, refl, ap, ◌∙◌, ⊎_elim, append_assoc, append-nil, pow-suc, arith, length-append, le-ltb, lt-ltb}
+use Rattle.run.specs.Line.{space, decimal_digits, decimal_of, hex_digit, hex_of}
 use Rattle.run.specs.Code.LineParts.{spaced}
 use Rattle.run.proofs.CampaignFile.Groups.{lt_or_ge}
 

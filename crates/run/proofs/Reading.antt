@@ -6,7 +6,7 @@ use mathlib.Core.Option.{none}
 use Rattle.run.specs.declared.campaign_file.PagePlace.{PagePlace}
 use Rattle.run.specs.declared.campaign_file.Parsed.{Parsed}
 use Rattle.run.specs.declared.campaign_file.Refusal.{Refusal}
-use Rattle.run.specs.CampaignFile.{Field, read, refused, longest, campaign_of, refusal_number, refusal_offset}
+use Rattle.run.specs.CampaignFile.{read, longest, campaign_of, refusal_number, refusal_offset}
 use Rattle.run.specs.Code.FileAnswers.{field_of}
 use Rattle.run.specs.Run.{call_of}
 use Rattle.run.specs.Line.{refusal_line_of, Printed}

@@ -93,7 +93,13 @@ impl Refusal {
 
 impl Cursor<'_> {
     // What is checked after a number's last group: it has to be written in the shortest way and to be at most its field's greatest value.
-    fn checked(&mut self, next: usize, value: u64, shortest: bool, greatest: u64) -> Result<u64, Refusal>
+    fn checked(
+        &mut self,
+        next: usize,
+        value: u64,
+        shortest: bool,
+        greatest: u64,
+    ) -> Result<u64, Refusal>
         ensures field { checked_of self.old.at next value shortest greatest ≡ field_of result self.new.at }
         ensures file { self.new.bytes ≡ self.old.bytes }
     {
@@ -123,7 +129,12 @@ impl Cursor<'_> {
             let group = u64::from(byte);
             if group < 128 {
                 let shortest = (count == 0) | (group != 0);
-                return self.checked(begin + count + 1, value + weight * group, shortest, greatest);
+                return self.checked(
+                    begin + count + 1,
+                    value + weight * group,
+                    shortest,
+                    greatest,
+                );
             }
             value += weight * (group % 128);
             weight *= 128;

@@ -9,7 +9,10 @@ use arithmetic::record::Lh5801;
 pub fn flags_of(cpu: Lh5801) -> u16
     ensures { (result ≡ flags_of cpu) × (result ≤ 511) }
 {
-    let low = u16::from(cpu.is_halted) + 2 * u16::from(cpu.pu) + 4 * u16::from(cpu.pv) + 8 * u16::from(cpu.bf);
+    let low = u16::from(cpu.is_halted)
+        + 2 * u16::from(cpu.pu)
+        + 4 * u16::from(cpu.pv)
+        + 8 * u16::from(cpu.bf);
     let middle = low + 16 * u16::from(cpu.disp) + 32 * u16::from(cpu.ir0) + 64 * u16::from(cpu.ir1);
     middle + 128 * u16::from(cpu.ir2) + 256 * u16::from(cpu.is_timer_reached)
 }

@@ -1,5 +1,5 @@
 -- The groups of one number that the loop of `Cursor::number` has passed, and what the definition says of the rest at each way out.
-use Rattle.std.proofs.Common.{◌≡◌, ℕ, zero, suc, ◌+◌, ◌-◌, ◌*◌, ◌%◌, ◌^◌, ◌<◌, ◌≤◌, Bool, true, false, cond, not, ◌||◌, eqb, ltb, leb, ◌⊎◌, List, length, get_or, drop, sym, refl, ap, ◌∙◌, inl, inr, ⊎_elim, add_assoc, mul_assoc, mul-le-mul_left, pow-suc, mul-add, add-one, arith, lit<, drop_of_length-le, drop-cons, ltb-false, ltb-true, eq-eqb, ne_eqb, le-leb}
+use Rattle.std.proofs.Common.{◌≡◌, ℕ, zero, suc, ◌+◌, ◌-◌, ◌*◌, ◌%◌, ◌^◌, ◌<◌, ◌≤◌, Bool, true, false, cond, not, ◌||◌, eqb, ltb, leb, ◌⊎◌, List, length, get_or, drop, sym, refl, ap, ◌∙◌, inl, inr, ⊎_elim, add_assoc, mul_assoc, mul-le-mul_left, pow-suc, mul-add, arith, lit<, drop_of_length-le, drop-cons, ltb-false, ltb-true, eq-eqb, ne_eqb, le-leb}
 use native.Mathlib.Nat.{pow-le-pow_right}
 use borrow.Author.Tests.{lt-leb}
 use Rattle.run.specs.CampaignFile.{Groups, ends, over, whole, group, groups, refused, checked_of, number_of}

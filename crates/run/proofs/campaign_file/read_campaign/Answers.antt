@@ -1,6 +1,6 @@
 use Rattle.std.proofs.Common.{◌≡◌, length, arith, le-ltb}
 use Rattle.run.specs.CampaignFile.{greatest_values, ended, campaign_of}
-use Rattle.run.proofs.CampaignFile.InTurn.{PageIs, page_read, numbers_within}
+use Rattle.run.proofs.CampaignFile.InTurn.{page_read, numbers_within}
 use Rattle.run.proofs.campaign_file.read_campaign.Goals as goal
 
 pub parsed_of-requires : goal.parsed_of-requires

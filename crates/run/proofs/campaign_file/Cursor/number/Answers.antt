@@ -1,4 +1,4 @@
-use Rattle.std.proofs.Common.{◌≡◌, ◌<◌, length, get_or, drop, ℕ, ◌%◌, ◌∙◌, refl, sym, arith, rules, append-nil, add-one, drop_of_length-le}
+use Rattle.std.proofs.Common.{◌≡◌, ◌<◌, length, get_or, drop, ◌%◌, ◌∙◌, refl, sym, arith, rules, append-nil, add-one, drop_of_length-le}
 use Rattle.std.proofs.lemmas.List.Folds.{drop_split}
 use Rattle.run.specs.CampaignFile.{number_of}
 use Rattle.run.proofs.CampaignFile.Groups.{passed_none, passed_more, passed_fits, nine_weigh, number_ends, number_last, number_tenth_one, number_tenth_not}
@@ -48,10 +48,11 @@ returns-then-group-lt128-clause-field c =
 pub loop-count-preserved : goal.loop-count-preserved
 loop-count-preserved c =
     let l = c.loop-count in
-    let group : c.from-group.result ≡ get_or c.in-Some.rest.now l.count 0 = c.from-group.ensures ∙ c.in-Some-get.ensures.lookup.3.1 0 in
-    (l.invariant.0,
-    l.invariant.1,
-    rw (group, add-one) (passed_more _ l.count l.weight l.value l.invariant.2 c.in-Some-get.ensures.lookup.3.0 c.loop-count-test.true (omega arith)))
+    let group : c.from-group.result ≡ get_or c.in-Some.rest.now l.count 0 = c.from-group.ensures ∙ c.in-Some-get.ensures.lookup.3.1 0 in (
+      l.invariant.0,
+      l.invariant.1,
+      rw (group, add-one) (passed_more _ l.count l.weight l.value l.invariant.2 c.in-Some-get.ensures.lookup.3.0 c.loop-count-test.true (omega arith)),
+    )
 
 pub returns-in_default-get-2-clause-field : goal.returns-in_default-get-2-clause-field
 returns-in_default-get-2-clause-field c =

@@ -1,5 +1,5 @@
 -- Laws of the printed line: one piece after another, and the digits of a number.
-use Rattle.std.proofs.Common.{◌≡◌, ℕ, zero, suc, ◌+◌, ◌-◌, ◌*◌, ◌/◌, ◌%◌, ◌^◌, ◌<◌, ◌≤◌, Bool, true, false, cond, ltb, List, [], ◌∷◌, ◌++◌, length, sym, refl, ap, ◌∙◌, ⊎_elim, append_assoc, append-nil, pow-suc, arith, length-append, le-ltb, lt-ltb}
+use Rattle.std.proofs.Common.{◌≡◌, ℕ, zero, suc, ◌+◌, ◌-◌, ◌*◌, ◌/◌, ◌%◌, ◌^◌, ◌<◌, ◌≤◌, Bool, true, false, cond, ltb, List, [], ◌∷◌, ◌++◌, length, sym, ap, ◌∙◌, ⊎_elim, append_assoc, append-nil, pow-suc, arith, length-append, le-ltb, lt-ltb}
 use Rattle.run.specs.Line.{space, decimal_digits, decimal_of, hex_digit, hex_of}
 use Rattle.run.specs.Code.LineParts.{spaced}
 use Rattle.run.proofs.CampaignFile.Groups.{lt_or_ge}
@@ -16,13 +16,6 @@ gathered_is so [] = sym (append-nil so)
 gathered_is so (field ∷ fields) = gathered_is (so ++ field ++ (space ∷ [])) fields ∙ simp append_assoc
 
 -- ---- digits
-
-pub length_hex : (digits value : ℕ) → length (hex_of digits value) ≡ digits
-unfolding hex_of
-length_hex zero value = refl
-length_hex (suc more) value =
-    let e : length (hex_of more (value / 16)) ≡ more = length_hex more (value / 16) in
-    rw length-append (omega arith)
 
 pub hex_more : (digits value : ℕ) → (digits ≡ 0 → ⊥) → hex_of digits value ≡ hex_of (digits - 1) (value / 16) ++ (hex_digit (value % 16) ∷ [])
 unfolding hex_of

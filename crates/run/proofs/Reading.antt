@@ -1,7 +1,6 @@
 -- A file that is read holds its two pages whole; what the code's answer says of the definition's report.
 use Rattle.std.specs.Prelude.{Result, Ok, Err}
-use Rattle.std.proofs.Common.{◌≡◌, ℕ, ◌+◌, ◌≤◌, List, length, take, sym, ap, ◌∙◌, arith, length-take}
-use native.Mathlib.Nat.{min-le_right}
+use Rattle.std.proofs.Common.{◌≡◌, ℕ, ◌+◌, ◌≤◌, List, length, ap, ◌∙◌}
 use mathlib.Core.Option.{none}
 use Rattle.run.specs.declared.campaign_file.PagePlace.{PagePlace}
 use Rattle.run.specs.declared.campaign_file.Parsed.{Parsed}
@@ -9,7 +8,7 @@ use Rattle.run.specs.declared.campaign_file.Refusal.{Refusal}
 use Rattle.run.specs.CampaignFile.{read, longest, campaign_of, refusal_number, refusal_offset}
 use Rattle.run.specs.Code.FileAnswers.{field_of}
 use Rattle.run.specs.Run.{call_of}
-use Rattle.run.specs.Line.{refusal_line_of, Printed}
+use Rattle.run.specs.Line.{refusal_line_of}
 use Rattle.run.specs.Report.{pages_in, settings_in, answer_line, report_of}
 use Rattle.run.proofs.CampaignFile.Number.{number_within}
 use Rattle.run.proofs.CampaignFile.InTurn.{PageIs, file_parts}
@@ -48,9 +47,3 @@ module _ (bytes : List ℕ) {x : Result Parsed Refusal} (is_answer : campaign_of
   pub report_refused : {s : Refusal} → x ≡ Err s → report_of bytes ≡ refusal_line_of (refusal_number s) (refusal_offset s)
   unfolding report_of
   report_refused g = rw (is_answer, g)
-
--- a printed line lies inside its buffer
-pub printed_within : {before bytes after : List ℕ} {r : ℕ} → Printed before bytes after r → r ≤ length after
-printed_within {after = after} {r = r} p =
-    let e : length (take r after) ≡ r = ap length p.bytes_are ∙ sym p.length_is in
-    omega (arith, min-le_right r (length after), rw length-take at e)

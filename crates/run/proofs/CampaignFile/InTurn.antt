@@ -16,10 +16,6 @@ abbrev onto : List ℕ → Field (List ℕ) → Field (List ℕ)
 onto before (read values next) = read (before ++ values) next
 onto before (refused stop) = refused stop
 
-onto_none : (f : Field (List ℕ)) → f ≡ onto [] f
-onto_none (read values next) = refl
-onto_none (refused stop) = refl
-
 onto_more : (bytes before : List ℕ) (value : ℕ) (f : Field (List ℕ)) → onto before (and_then bytes f (λ values. given (value ∷ values))) ≡ onto (before ++ (value ∷ [])) f
 onto_more bytes before value (read values next) = ap (λ (l : List ℕ). read l next) (sym (append_assoc before (value ∷ []) values))
 onto_more bytes before value (refused stop) = refl
@@ -27,9 +23,6 @@ onto_more bytes before value (refused stop) = refl
 -- the first i values were read, up to this place
 pub record ReadSo (greatests bytes : List ℕ) (begin : ℕ) (values : List ℕ) (i at : ℕ) : Type 0 where
   pub so : numbers_of greatests bytes begin ≡ onto (take i values) (numbers_of (drop i greatests) bytes at)
-
-pub read_none : (greatests bytes : List ℕ) (begin : ℕ) (values : List ℕ) → ReadSo greatests bytes begin values 0 begin
-read_none greatests bytes begin values = record { so = onto_none (numbers_of greatests bytes begin) }
 
 module _ {greatests bytes : List ℕ} {begin : ℕ} {values : List ℕ} {i at : ℕ} (p : ReadSo greatests bytes begin values i at) where
   pub read_more : {value next : ℕ} → i < length greatests → i < length values → number_of (get_or greatests i 0) bytes at ≡ read value next

@@ -197,7 +197,7 @@ fn parsed_of(values: &[u64; 14], page0: PagePlace, page1: PagePlace) -> Parsed
 }
 
 // A whole campaign file: its fields in order, and then no byte more.
-#[tactic(auto, unfolding(crate::specs::CampaignFile::campaign_of, crate::specs::CampaignFile::ended))]
+#[tactic(auto, using(crate::proofs::CampaignFile::InTurn::page_read, crate::proofs::CampaignFile::InTurn::numbers_within), unfolding(crate::specs::CampaignFile::campaign_of, crate::specs::CampaignFile::ended))]
 pub fn read_campaign(bytes: &[u8]) -> Result<Parsed, Refusal>
     ensures { campaign_of bytes.now 0 ≡ field_of result (length bytes.now) }
 {

@@ -21,6 +21,7 @@ pub fn settings_of(asked: Asked) -> Settings
 }
 
 // A file that was read: its run call, without a log.
+#[tactic(auto, using(crate::proofs::Stored::copied), unfolding(crate::specs::BusLog::free_in))]
 fn file_answer(bytes: &[u8], c: Parsed) -> Answer
     requires page0_len_in_bounds { (c.page0.at + c.page0.len ≤ length bytes.now) × (c.page0.len ≤ 16384) }
     requires page1_len_in_bounds { (c.page1.at + c.page1.len ≤ length bytes.now) × (c.page1.len ≤ 16384) }
@@ -61,6 +62,7 @@ pub fn answer_line(out: &mut [u8; 200], a: Answer) -> usize
 }
 
 // The line of a campaign file, at the start of a buffer; its length is returned.
+#[tactic(auto, using(crate::proofs::Reading::file_within, crate::proofs::Reading::report_read, crate::proofs::Reading::report_refused))]
 pub fn report(bytes: &[u8], out: &mut [u8; 200]) -> usize
     ensures { Printed out.old (report_of bytes.now) out.new result }
 {

@@ -1,16 +1,7 @@
-use Rattle.std.proofs.Common.{◌≡◌, ◌<◌, length, get_or, drop, ◌%◌, ◌∙◌, refl, sym, arith, rules, append-nil, add-one, drop_of_length-le}
-use Rattle.std.proofs.lemmas.List.Folds.{drop_split}
+use Rattle.std.proofs.Common.{◌≡◌, ◌<◌, length, get_or, ◌%◌, ◌∙◌, arith, rules, add-one, drop_of_length-le}
 use Rattle.run.specs.CampaignFile.{number_of}
-use Rattle.run.proofs.CampaignFile.Groups.{passed_none, passed_more, passed_fits, nine_weigh, number_ends, number_last, number_tenth_one, number_tenth_not}
+use Rattle.run.proofs.CampaignFile.Groups.{passed_more, passed_fits, number_ends, number_last, number_tenth_one, number_tenth_not}
 use Rattle.run.proofs.campaign_file.Cursor.number.Goals as goal
-
-pub loop-count-init : goal.loop-count-init
-loop-count-init c =
-    let bytes = c.args.self.now.bytes.now in
-    let range = c.in-Some.ensures.lookup.0 in
-    let all : drop c.args.self.now.at bytes ≡ c.in-Some.rest.now
-    = drop_split bytes c.args.self.now.at (length bytes) range.0 ∙ rw (drop_of_length-le bytes {i = length bytes} (omega arith), append-nil, range.2) in
-    (refl, sym all, passed_none c.in-Some.rest.now)
 
 pub returns-in_default-clause-field : goal.returns-in_default-clause-field
 unfolding number_of
@@ -59,11 +50,6 @@ returns-in_default-get-2-clause-field c =
     let l = c.loop-count in
     let nine : l.count ≡ 9 = omega arith in
     number_ends _ l.count l.weight l.value l.invariant.2 _ _ l.invariant.1 c.args.greatest (rw nine (search (rules, c.in_default-get-2.ensures.lookup)))
-
-pub overflow_add-value-then-byte-eq1 : goal.overflow_add-value-then-byte-eq1
-overflow_add-value-then-byte-eq1 c =
-    let l = c.loop-count in
-    omega (arith, nine_weigh l.count l.weight l.invariant.2.weight_is l.invariant.2.few, l.invariant.2.below)
 
 pub returns-then-byte-eq1-clause-field : goal.returns-then-byte-eq1-clause-field
 returns-then-byte-eq1-clause-field c =

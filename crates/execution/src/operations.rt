@@ -30,7 +30,7 @@ fn operate(cpu: Lh5801, o: Operation, v: u8) -> Lh5801
 pub fn alu(cpu: Lh5801, memory: &Memory, o: Operation, place: Place) -> Lh5801
     ensures { Reads (alu_of cpu o place) memory result }
 {
-    let f = places::operand(places::word_at(cpu, place), cpu.p, memory, place);
+    let f = places::operand(cpu, memory, place);
     operate(cpu.with_p(f.p), o, f.value)
 }
 
@@ -38,12 +38,13 @@ pub fn alu(cpu: Lh5801, memory: &Memory, o: Operation, place: Place) -> Lh5801
 fn store(cpu: Lh5801, memory: &mut Memory, place: Place) -> Lh5801
     ensures { Changes (store_of cpu place) memory result }
 {
-    let l = places::locate(places::word_at(cpu, place), cpu.p, memory, place);
+    let l = places::locate(cpu, memory, place);
     memory.write_byte(l.addr, cpu.a);
     cpu.with_p(l.p)
 }
 
 // A to a half or to memory.
+#[tactic(auto, using(pages::proofs::Does::does_done), unfolding(crate::specs::Instructions::sta_of))]
 pub fn sta(cpu: Lh5801, memory: &mut Memory, place: Place) -> Lh5801
     ensures { Changes (sta_of cpu place) memory result }
 {
@@ -80,7 +81,7 @@ fn changed(t: u8, o: Change, byte: u8, v: u8) -> arithmetic::Sum<u8>
 pub fn memory(cpu: Lh5801, memory: &mut Memory, o: Change, place: Place) -> Lh5801
     ensures { Changes (memory_of cpu o place) memory result }
 {
-    let l = places::locate(places::word_at(cpu, place), cpu.p, memory, place);
+    let l = places::locate(cpu, memory, place);
     let imm = memory.cpu_readop(l.p);
     let b = memory.read_byte(l.addr);
     let s = changed(cpu.t, o, b, imm.value);
@@ -92,7 +93,7 @@ pub fn memory(cpu: Lh5801, memory: &mut Memory, o: Change, place: Place) -> Lh58
 pub fn bii(cpu: Lh5801, memory: &Memory, place: Place) -> Lh5801
     ensures { Reads (bii_of cpu place) memory result }
 {
-    let l = places::locate(places::word_at(cpu, place), cpu.p, memory, place);
+    let l = places::locate(cpu, memory, place);
     let b = memory.read_byte(l.addr);
     let imm = memory.cpu_readop(l.p);
     arithmetic::bit(cpu.with_p(imm.p), b, imm.value)

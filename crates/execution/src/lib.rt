@@ -66,7 +66,7 @@ pub enum Executed {
     Completed(Lh5801),
 }
 
-#[tactic(auto, unfolding(crate::specs::Instructions::execute_of))]
+#[tactic(auto, using(pages::proofs::Does::does_done), unfolding(crate::specs::Instructions::execute_of))]
 pub fn execute(cpu: Lh5801, memory: &mut Memory, inputs: Inputs, i: Instruction) -> Lh5801
     ensures { Changes (execute_of cpu inputs i) memory result }
 {
@@ -75,18 +75,18 @@ pub fn execute(cpu: Lh5801, memory: &mut Memory, inputs: Inputs, i: Instruction)
         Instruction::Sta(place) => operations::sta(cpu, memory, place),
         Instruction::Memory(o, place) => operations::memory(cpu, memory, o, place),
         Instruction::Bii(place) => operations::bii(cpu, memory, place),
-        Instruction::Drr(page) => operations::drr(cpu, memory, page),
-        Instruction::Drl(page) => operations::drl(cpu, memory, page),
+        Instruction::Drr(page) => operations::rotate::<true>(cpu, memory, page),
+        Instruction::Drl(page) => operations::rotate::<false>(cpu, memory, page),
         Instruction::Load(h) => operations::load(cpu, memory, h),
         Instruction::Compare(h) => operations::compare(cpu, memory, h),
-        Instruction::Inc(h) => operations::inc_half(cpu, h),
-        Instruction::Dec(h) => operations::dec_half(cpu, h),
-        Instruction::IncWord(r) => transfers::inc_word(cpu, r),
-        Instruction::DecWord(r) => transfers::dec_word(cpu, r),
-        Instruction::Sin(r) => transfers::sin(cpu, memory, r),
-        Instruction::Sde(r) => transfers::sde(cpu, memory, r),
-        Instruction::Lin(r) => transfers::lin(cpu, memory, r),
-        Instruction::Lde(r) => transfers::lde(cpu, memory, r),
+        Instruction::Inc(h) => operations::count_half::<true>(cpu, h),
+        Instruction::Dec(h) => operations::count_half::<false>(cpu, h),
+        Instruction::IncWord(r) => transfers::count_word::<true>(cpu, r),
+        Instruction::DecWord(r) => transfers::count_word::<false>(cpu, r),
+        Instruction::Sin(r) => transfers::store_and_count::<true>(cpu, memory, r),
+        Instruction::Sde(r) => transfers::store_and_count::<false>(cpu, memory, r),
+        Instruction::Lin(r) => transfers::load_and_count::<true>(cpu, memory, r),
+        Instruction::Lde(r) => transfers::load_and_count::<false>(cpu, memory, r),
         Instruction::Branch(direction, c) => flow::branch(cpu, memory, c, direction),
         Instruction::Lop => flow::lop(cpu, memory),
         Instruction::VectorIf(c) => flow::vector_if(cpu, memory, c),

@@ -22,6 +22,7 @@ pub mod opcodes;
 pub mod opcodes_fd;
 pub mod operations;
 pub mod places;
+pub mod shapes;
 pub mod transfers;
 
 // What a step is given besides the record and the pages.

@@ -10,7 +10,6 @@ use Rattle.pages.specs.Pages.{Pages, at, stored, store, SameLength}
 use Rattle.pages.specs.Prog.{Prog, done, ◌>>=◌, read, write, Access, read_of, after, exec}
 use Rattle.pages.specs.Stack.{up16, down16, readop_of, readop_word_of, mem16_of, push_of, push_word_of, pop_of, pop_word_of, push_state_of, accept_of}
 use Rattle.pages.specs.Timer.{add_state_of, timer_part_of}
-use Rattle.pages.specs.Contract.{Does}
 use Rattle.pages.proofs.Exec.{bind_answer, bind_accesses}
 use Rattle.pages.proofs.Pages.{store_long, stored_long, at_store}
 use Rattle.execution.specs.declared.Inputs.{Inputs}
@@ -24,9 +23,10 @@ use Rattle.execution.specs.declared.instructions.Condition.{Condition}
 use Rattle.execution.specs.declared.instructions.Condition.TheVariants.{NoCarry, Carry, NoHalfCarry, HalfCarry, NotZero, Zero, NoOverflow, Overflow, Always}
 use Rattle.execution.specs.declared.instructions.Instruction.{Instruction}
 use Rattle.execution.specs.declared.instructions.Instruction.TheVariants.{Alu, Sta, Memory, Bii, Drr, Drl, Load, Compare, Inc, Dec, IncWord, DecWord, Sin, Sde, Lin, Lde, Branch, Lop, VectorIf, Vector, Jmp, Sjp, Rtn, Rti, LoadS, Tin, Cin, OnA, Sets, PopWord, PushWord, PopA, PushA, ToX, FromX, DropWord, Adr, Off, Hlt, Cdv, Nop}
-use Rattle.execution.specs.declared.instructions.Decoded.{Decoded}
-use Rattle.execution.specs.declared.instructions.Decoded.TheVariants.{Listed, Unlisted}
-use Rattle.execution.specs.declared.Fetched.{Fetched}
+use Rattle.execution.specs.declared.instructions.Listed.{Listed}
+use Rattle.std.specs.Prelude.{Option, Some, None}
+use Rattle.execution.specs.declared.Opcode.{Opcode}
+use Rattle.execution.specs.declared.Opcode.TheVariants.{First, AfterFd}
 use Rattle.execution.specs.declared.shapes.Action.TheVariants.{Update, Test}
 use Rattle.execution.specs.Places.{locate_of, operand_of}
 use Rattle.execution.specs.Instructions.{operated, alu_of, store_of, sta_of, changed_of, memory_of, bii_of, drr_of, drl_of, load_of, compare_of, store_at_of, load_at_of, sin_of, sde_of, lin_of, lde_of, holds_of, branch_of, lop_of, vector_of, vector_if_of, jmp_of, sjp_of, rtn_of, rti_of, load_sOf, tin_of, cin_of, pop_to_of, push_from_of, execute_of}
@@ -143,7 +143,7 @@ executed_accesses m inputs (Sin r) pages = refl
 executed_accesses m inputs (Sde r) pages = refl
 executed_accesses m inputs (Lin r) pages = refl
 executed_accesses m inputs (Lde r) pages = refl
-executed_accesses m inputs (Branch forward c) pages = refl
+executed_accesses m inputs (Branch direction c) pages = refl
 executed_accesses m inputs Lop pages = refl
 executed_accesses m inputs (VectorIf c) pages = vector_if_accesses_lem m pages c
 executed_accesses m inputs (Vector nr) pages = vector_accesses_lem m pages nr
@@ -170,44 +170,46 @@ executed_accesses m inputs Cdv pages = refl
 executed_accesses m inputs Nop pages = refl
 
 -- the opcode's own bytes
-fetch_accesses : (pages : Pages) (p : ℕ) → (exec (fetch_of p) pages).accesses ≡ opcode_accesses pages p (opcode_at pages p).fd
+fetch_accesses : (pages : Pages) (p : ℕ) → (exec (fetch_of p) pages).accesses ≡ opcode_accesses pages p (opcode_at pages p).value
 unfolding fetch_of readop_of read ◌>>=◌ exec after
 fetch_accesses pages p = go (eqb (at pages p) 0xFD)
   where
     go : (t : Bool)
         → read_of p (at pages p)
-        ∷ (exec (cond t (readop_of (up16 p) >>= (λ second. done (fetched true second.value second.p))) (done (fetched false (at pages p) (up16 p)))) pages).accesses
-        ≡ opcode_accesses pages p (cond t (fetched true (at pages (up16 p)) (up16 (up16 p))) (fetched false (at pages p) (up16 p))).fd
+        ∷ (exec (cond t (readop_of (up16 p) >>= (λ second. done (fetched (AfterFd second.value) second.p))) (done (fetched (First (at pages p)) (up16 p)))) pages).accesses
+        ≡ opcode_accesses pages p (cond t (fetched (AfterFd (at pages (up16 p))) (up16 (up16 p))) (fetched (First (at pages p)) (up16 p))).value
     go true = refl
     go false = refl
 
 -- what a decoded byte does, after the accesses l of the opcode
-decoded_accesses : (m : Lh5801) (inputs : Inputs) (o : Fetched) (d : Decoded) (pages : Pages)
-    → of_completed (exec (decoded_step_of m inputs o d) pages).answer (opcode_accesses pages m.p o.fd ++ (exec (decoded_step_of m inputs o d) pages).accesses)
+decoded_accesses : (m : Lh5801) (inputs : Inputs) (o : Code Opcode) (d : Option Listed) (pages : Pages)
+    → of_completed (exec (decoded_step_of m inputs o d) pages).answer (opcode_accesses pages m.p o.value ++ (exec (decoded_step_of m inputs o d) pages).accesses)
     ≡ fetched_accesses m pages o (shape_in d)
 unfolding decoded_step_of exec
-decoded_accesses m inputs o (Listed i n) pages =
+decoded_accesses m inputs o (Some l) pages =
+    let i = l.instruction in
+    let n = l.states in
     rw (
-      bind_answer (execute_of (with_p m o.p) inputs i) (λ k. done (did (timer_part_of (add_state_of k n)) (n + added_of m i) (instruction o.fd o.byte))) pages,
-      bind_accesses (execute_of (with_p m o.p) inputs i) (λ k. done (did (timer_part_of (add_state_of k n)) (n + added_of m i) (instruction o.fd o.byte))) pages,
+      bind_answer (execute_of (with_p m o.p) inputs i) (λ k. done (did (timer_part_of (add_state_of k n)) (n + added_of m i) (instruction o.value))) pages,
+      bind_accesses (execute_of (with_p m o.p) inputs i) (λ k. done (did (timer_part_of (add_state_of k n)) (n + added_of m i) (instruction o.value))) pages,
       append-nil,
       executed_accesses (with_p m o.p) inputs i pages,
     )
-decoded_accesses m inputs o Unlisted pages = refl
+decoded_accesses m inputs o None pages = refl
 
 -- the accesses of a completed instruction, and none of an unlisted one
 instruction_accesses_lem : (m : Lh5801) (inputs : Inputs) (pages : Pages) → completed_accesses (exec (instruction_of m inputs) pages) ≡ instruction_accesses m pages
 unfolding instruction_of instruction_accesses shape_by
 instruction_accesses_lem m inputs pages =
-    let o : Fetched = opcode_at pages m.p in
+    let o : Code Opcode = opcode_at pages m.p in
     rw (
-      bind_answer (fetch_of m.p) (λ f. decoded_step_of m inputs f (decoded_by f.fd f.byte)) pages,
-      bind_accesses (fetch_of m.p) (λ f. decoded_step_of m inputs f (decoded_by f.fd f.byte)) pages,
+      bind_answer (fetch_of m.p) (λ f. decoded_step_of m inputs f (decoded_by f.value)) pages,
+      bind_accesses (fetch_of m.p) (λ f. decoded_step_of m inputs f (decoded_by f.value)) pages,
       fetch_answer pages m.p,
       fetch_pages pages m.p,
       fetch_accesses pages m.p,
     )
-    (decoded_accesses m inputs o (decoded_by o.fd o.byte) pages)
+    (decoded_accesses m inputs o (decoded_by o.value) pages)
 
 interrupt_accesses : (m : Lh5801) (vector : ℕ) (pages : Pages) → completed_accesses (exec (interrupt_of m vector) pages) ≡ accept_accesses m pages vector
 unfolding interrupt_of accept_of push_state_of push_word_of push_of mem16_of read write ◌>>=◌ exec after with_s with_t

@@ -6,6 +6,7 @@ use Rattle.arithmetic.specs.declared.record.Lh5801.{Lh5801}
 use Rattle.arithmetic.specs.Record.{with_p}
 use Rattle.arithmetic.specs.Flags.{IE, has_flag}
 use Rattle.arithmetic.specs.Shifts.{drl_moved, drr_moved}
+use Rattle.pages.specs.declared.Code.{Code}
 use Rattle.pages.specs.Pages.{Pages, at, stored}
 use Rattle.pages.specs.Prog.{Access, read_of, write_of, exec}
 use Rattle.pages.specs.Stack.{up16, down16, word_of}
@@ -19,21 +20,21 @@ use Rattle.execution.specs.declared.instructions.Change.TheVariants.{Ani, Ori, A
 use Rattle.execution.specs.declared.instructions.Condition.{Condition}
 use Rattle.execution.specs.declared.instructions.Instruction.{Instruction}
 use Rattle.execution.specs.declared.instructions.Instruction.TheVariants.{Alu, Sta, Memory, Bii, Drr, Drl, Load, Compare, Inc, Dec, IncWord, DecWord, Sin, Sde, Lin, Lde, Branch, Lop, VectorIf, Vector, Jmp, Sjp, Rtn, Rti, LoadS, Tin, Cin, OnA, Sets, PopWord, PushWord, PopA, PushA, ToX, FromX, DropWord, Adr, Off, Hlt, Cdv, Nop}
-use Rattle.execution.specs.declared.instructions.Decoded.{Decoded}
-use Rattle.execution.specs.declared.instructions.Decoded.TheVariants.{Listed, Unlisted}
+use Rattle.execution.specs.declared.instructions.Listed.{Listed}
 use Rattle.execution.specs.declared.shapes.Action.{Action}
 use Rattle.execution.specs.declared.shapes.Action.TheVariants.{Read, StoreA, Update, Test, RotateRight, RotateLeft}
 use Rattle.execution.specs.declared.shapes.Shape.{Shape}
 use Rattle.execution.specs.declared.shapes.Shape.TheVariants as shapes
-use Rattle.execution.specs.declared.Fetched.{Fetched}
+use Rattle.execution.specs.declared.Opcode.{Opcode}
+use Rattle.execution.specs.declared.Opcode.TheVariants.{First, AfterFd}
 use Rattle.execution.specs.Places.{word_in, locate_of}
 use Rattle.execution.specs.Instructions.{holds_of}
 use Rattle.execution.specs.Step.{fetched, decoded_by}
 
 -- the opcode that the pages hold at p
-abbrev pub opcode_at : Pages → ℕ → Fetched
+abbrev pub opcode_at : Pages → ℕ → Code Opcode
 opcode_at pages p =
-    cond (at pages p == 0xFD) (fetched true (at pages (up16 p)) (up16 (up16 p))) (fetched false (at pages p) (up16 p))
+    cond (at pages p == 0xFD) (fetched (AfterFd (at pages (up16 p))) (up16 (up16 p))) (fetched (First (at pages p)) (up16 p))
 
 -- k bytes read one after the other from a, which wraps on 16 bits
 abbrev pub bytes_from : Pages → ℕ → ℕ → List Access
@@ -140,7 +141,7 @@ shape_of (Sin r) = shapes.At StoreA (Pointer Me0 r)
 shape_of (Sde r) = shapes.At StoreA (Pointer Me0 r)
 shape_of (Lin r) = shapes.At Read (Pointer Me0 r)
 shape_of (Lde r) = shapes.At Read (Pointer Me0 r)
-shape_of (Branch forward c) = shapes.Operand 1
+shape_of (Branch direction c) = shapes.Operand 1
 shape_of Lop = shapes.Operand 1
 shape_of (VectorIf c) = shapes.VectorIf c
 shape_of (Vector nr) = shapes.Vector nr
@@ -166,26 +167,26 @@ shape_of Hlt = shapes.Operand 0
 shape_of Cdv = shapes.Operand 0
 shape_of Nop = shapes.Operand 0
 
-abbrev pub shape_in : Decoded → Option Shape
-shape_in (Listed i n) = Some (shape_of i)
-shape_in Unlisted = None
+abbrev pub shape_in : Option Listed → Option Shape
+shape_in (Some l) = Some (shape_of l.instruction)
+shape_in None = None
 
--- the shape of an opcode, after FD or not
-unfoldable pub shape_by : Bool → ℕ → Option Shape
-shape_by fd byte = shape_in (decoded_by fd byte)
+-- the shape of an opcode
+unfoldable pub shape_by : Opcode → Option Shape
+shape_by opcode = shape_in (decoded_by opcode)
 
 -- the bytes that name an instruction
-abbrev pub opcode_accesses : Pages → ℕ → Bool → List Access
-opcode_accesses pages p true = bytes_from pages p 2
-opcode_accesses pages p false = bytes_from pages p 1
+abbrev pub opcode_accesses : Pages → ℕ → Opcode → List Access
+opcode_accesses pages p (First byte) = bytes_from pages p 1
+opcode_accesses pages p (AfterFd byte) = bytes_from pages p 2
 
--- the accesses of the instruction that this opcode names, and none where it is unlisted
-abbrev pub fetched_accesses : Lh5801 → Pages → Fetched → Option Shape → List Access
+-- the accesses of the instruction that this opcode names, by its shape, and none where it is unlisted
+abbrev pub fetched_accesses : Lh5801 → Pages → Code Opcode → Option Shape → List Access
 fetched_accesses m pages o None = []
-fetched_accesses m pages o (Some shape) = opcode_accesses pages m.p o.fd ++ shape_accesses (with_p m o.p) pages shape
+fetched_accesses m pages o (Some shape) = opcode_accesses pages m.p o.value ++ shape_accesses (with_p m o.p) pages shape
 
 unfoldable pub instruction_accesses : Lh5801 → Pages → List Access
-instruction_accesses m pages = fetched_accesses m pages (opcode_at pages m.p) (shape_by (opcode_at pages m.p).fd (opcode_at pages m.p).byte)
+instruction_accesses m pages = fetched_accesses m pages (opcode_at pages m.p) (shape_by (opcode_at pages m.p).value)
 
 -- with BF set: none where IR0 is set; those of an accepted interrupt, where `first` says that IR1 is set or the timer reached; none where the
 -- unit is halted, whether the step waits or stops; else those of the instruction

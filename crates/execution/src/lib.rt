@@ -115,7 +115,7 @@ pub fn execute(cpu: Lh5801, memory: &mut Memory, inputs: Inputs, i: Instruction)
     }
 }
 
-fn fetch(p: u16, memory: &Memory) -> Code<Opcode>
+pub fn fetch(p: u16, memory: &Memory) -> Code<Opcode>
     ensures { Reads (fetch_of p) memory result }
 {
     let first = memory.cpu_readop(p);

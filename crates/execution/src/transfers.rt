@@ -1,8 +1,8 @@
 // Register pairs, transfers through them, the stack's instructions, A alone, lines and flags.
-ghost use Rattle.std.specs.Prelude.{◌≡◌};
+ghost use Rattle.std.specs.Prelude.{◌≡◌, if◌then◌else◌};
 ghost use Rattle.pages.specs.Contract.{Changes, Reads};
 ghost use Rattle.arithmetic.specs.Sums.{inc_of, dec_of, with_sum};
-ghost use Rattle.execution.specs.Instructions.{inc_word_of, dec_word_of, store_at_of, load_at_of, sin_of, sde_of, lin_of, lde_of, load_sOf, tin_of, cin_of, on_aOf, signal_of, pop_to_of, push_from_of, to_xOf, from_xOf, adr_in_of, cdv_of, drop_word_of};
+ghost use Rattle.execution.specs.Instructions.{inc_word_of, dec_word_of, sin_of, sde_of, lin_of, lde_of, load_sOf, tin_of, cin_of, on_aOf, signal_of, pop_to_of, push_from_of, to_xOf, from_xOf, adr_in_of, cdv_of, drop_word_of};
 
 use crate::instructions::{Accumulator, Signal, Word};
 use crate::places;
@@ -10,60 +10,36 @@ use crate::places::Register;
 use arithmetic::record::Lh5801;
 use pages::Memory;
 
-pub fn inc_word(cpu: Lh5801, r: Register) -> Lh5801
-    ensures { result ≡ inc_word_of cpu r }
+// A pair, up or down by one.
+#[tactic(auto, unfolding(crate::specs::Instructions::inc_word_of, crate::specs::Instructions::dec_word_of))]
+pub fn count_word<const UP: bool>(cpu: Lh5801, r: Register) -> Lh5801
+    ensures { result ≡ (if UP then inc_word_of cpu r else dec_word_of cpu r) }
 {
     let w = places::get_word(cpu, r);
-    places::set_word(cpu, r, w.wrapping_add(1))
+    let next = if UP {
+        w.wrapping_add(1)
+    } else {
+        w.wrapping_sub(1)
+    };
+    places::set_word(cpu, r, next)
 }
 
-pub fn dec_word(cpu: Lh5801, r: Register) -> Lh5801
-    ensures { result ≡ dec_word_of cpu r }
+// SIN and SDE: A to the byte that a pair points to, and the pair up or down.
+pub fn store_and_count<const UP: bool>(cpu: Lh5801, memory: &mut Memory, r: Register) -> Lh5801
+    ensures { Changes (if UP then sin_of cpu r else sde_of cpu r) memory result }
 {
     let w = places::get_word(cpu, r);
-    places::set_word(cpu, r, w.wrapping_sub(1))
+    memory.write_byte(u32::from(w), cpu.a);
+    count_word::<UP>(cpu, r)
 }
 
-// A to the byte that a pair points to.
-fn store_at(cpu: Lh5801, memory: &mut Memory, r: Register) -> Lh5801
-    ensures { Changes (store_at_of cpu r) memory result }
+// LIN and LDE: A from the byte that a pair points to, and the pair up or down.
+pub fn load_and_count<const UP: bool>(cpu: Lh5801, memory: &Memory, r: Register) -> Lh5801
+    ensures { Reads (if UP then lin_of cpu r else lde_of cpu r) memory result }
 {
     let w = places::get_word(cpu, r);
-    memory.write_byte(w as u32, cpu.a);
-    cpu
-}
-
-// A from the byte that a pair points to.
-fn load_at(cpu: Lh5801, memory: &Memory, r: Register) -> Lh5801
-    ensures { Reads (load_at_of cpu r) memory result }
-{
-    let w = places::get_word(cpu, r);
-    let b = memory.read_byte(w as u32);
-    arithmetic::lda(cpu, b)
-}
-
-pub fn sin(cpu: Lh5801, memory: &mut Memory, r: Register) -> Lh5801
-    ensures { Changes (sin_of cpu r) memory result }
-{
-    inc_word(store_at(cpu, memory, r), r)
-}
-
-pub fn sde(cpu: Lh5801, memory: &mut Memory, r: Register) -> Lh5801
-    ensures { Changes (sde_of cpu r) memory result }
-{
-    dec_word(store_at(cpu, memory, r), r)
-}
-
-pub fn lin(cpu: Lh5801, memory: &Memory, r: Register) -> Lh5801
-    ensures { Reads (lin_of cpu r) memory result }
-{
-    inc_word(load_at(cpu, memory, r), r)
-}
-
-pub fn lde(cpu: Lh5801, memory: &Memory, r: Register) -> Lh5801
-    ensures { Reads (lde_of cpu r) memory result }
-{
-    dec_word(load_at(cpu, memory, r), r)
+    let b = memory.read_byte(u32::from(w));
+    count_word::<UP>(arithmetic::lda(cpu, b), r)
 }
 
 // S from the code.
@@ -94,17 +70,15 @@ pub fn cin(cpu: Lh5801, memory: &Memory) -> Lh5801
     arithmetic::cpa(cpu.with_x(x), cpu.a, b)
 }
 
-fn inc_a(cpu: Lh5801) -> Lh5801
-    ensures { result ≡ with_sum cpu (inc_of cpu.t cpu.a) }
+// INC and DEC of A.
+fn count_a<const UP: bool>(cpu: Lh5801) -> Lh5801
+    ensures { result ≡ with_sum cpu (if UP then inc_of cpu.t cpu.a else dec_of cpu.t cpu.a) }
 {
-    let s = arithmetic::inc(cpu.t, cpu.a);
-    cpu.with_a(s.value).with_t(s.t)
-}
-
-fn dec_a(cpu: Lh5801) -> Lh5801
-    ensures { result ≡ with_sum cpu (dec_of cpu.t cpu.a) }
-{
-    let s = arithmetic::dec(cpu.t, cpu.a);
+    let s = if UP {
+        arithmetic::inc(cpu.t, cpu.a)
+    } else {
+        arithmetic::dec(cpu.t, cpu.a)
+    };
     cpu.with_a(s.value).with_t(s.t)
 }
 
@@ -113,8 +87,8 @@ pub fn accumulator(cpu: Lh5801, i: Accumulator, keyboard: u8) -> Lh5801
     ensures { result ≡ on_aOf cpu i keyboard }
 {
     match i {
-        Accumulator::IncA => inc_a(cpu),
-        Accumulator::DecA => dec_a(cpu),
+        Accumulator::IncA => count_a::<true>(cpu),
+        Accumulator::DecA => count_a::<false>(cpu),
         Accumulator::Ror => arithmetic::ror(cpu),
         Accumulator::Shr => arithmetic::shr(cpu),
         Accumulator::Shl => arithmetic::shl(cpu),

@@ -4,10 +4,10 @@ use Rattle.arithmetic.proofs.Bytes.{byte_cut}
 use Rattle.execution.proofs.transfers.accumulator.Goals as goal
 
 pub returns-in-IncA : goal.returns-in-IncA
-returns-in-IncA c = rw c.in-IncA.is c.inc_a.ensures
+returns-in-IncA c = rw c.in-IncA.is c.count_a.ensures
 
 pub returns-in-DecA : goal.returns-in-DecA
-returns-in-DecA c = rw c.in-DecA.is c.dec_a.ensures
+returns-in-DecA c = rw c.in-DecA.is c.count_a-in-DecA.ensures
 
 pub returns-in-Ror : goal.returns-in-Ror
 returns-in-Ror c = rw c.in-Ror.is c.ror.ensures

@@ -22,6 +22,7 @@ pub mod opcodes;
 pub mod opcodes_fd;
 pub mod operations;
 pub mod places;
+pub mod shapes;
 pub mod transfers;
 
 // What a step is given besides the record and the pages.
@@ -114,7 +115,7 @@ pub fn execute(cpu: Lh5801, memory: &mut Memory, inputs: Inputs, i: Instruction)
     }
 }
 
-fn fetch(p: u16, memory: &Memory) -> Code<Opcode>
+pub fn fetch(p: u16, memory: &Memory) -> Code<Opcode>
     ensures { Reads (fetch_of p) memory result }
 {
     let first = memory.cpu_readop(p);

@@ -10,7 +10,8 @@ ghost use Rattle.run.specs.Run.{call_of, settings};
 ghost use Rattle.lh5801.specs.Words.{taken_of, cpu_of, words_of, word_widths, log_with, Left};
 
 use execution::Inputs;
-use run::{Answer, Log, Settings, record_numbers};
+use bus::BusLog;
+use run::{Answer, Settings, record_numbers};
 
 // A number of at most 16 bits; a larger one counts as the largest of them.
 fn limited(value: u64) -> u64
@@ -47,8 +48,8 @@ fn words_of(r: Answer) -> [u64; 16]
     let cpu = r.cpu;
     let end = r.end;
     let numbers = record_numbers::from_record(cpu);
-    let number = record_numbers::byte_number(run::number(end));
-    let byte = record_numbers::byte_number(run::byte(end));
+    let number = record_numbers::byte_number(end.number());
+    let byte = record_numbers::byte_number(end.byte());
     [
         numbers[0],
         numbers[1],
@@ -95,12 +96,12 @@ pub extern "C" fn lh5801_call(
         inputs: inputs,
         limit: limit,
     };
-    let lent = Log {
-        lent: logged,
+    let mut log = BusLog {
+        entries: log,
         used: log_used,
     };
-    let r = run::run(cpu, page0, page1, log, lent, settings);
-    let answer = r.answer;
+    let lent = if logged { Some(&mut log) } else { None };
+    let answer = run::run(cpu, page0, page1, lent, settings);
     *words = words_of(answer);
-    r.used
+    log.used
 }

@@ -2,8 +2,9 @@
 ghost use Rattle.std.specs.Prelude.{◌≡◌, ◌+◌, ◌≤◌, length};
 ghost use Rattle.run.specs.Parts.{part, at_start, RunParts};
 
-use crate::{Log, Logged, Settings};
+use crate::{Answer, Settings};
 use arithmetic::record::Lh5801;
+use bus::BusLog;
 
 // So many bytes, from a place on, to the start of a page.
 pub fn copy_part(bytes: &[u8], at: usize, page: &mut [u8], len: usize)
@@ -24,18 +25,16 @@ pub fn run_parts(
     len0: usize,
     page1: &mut [u8],
     len1: usize,
-    entries: &mut [u32],
-    log: Log,
+    log: Option<&mut BusLog>,
     settings: Settings,
-) -> Logged
+) -> Answer
     requires { (len0 ≤ length page0.old) × (len1 ≤ length page1.old) }
-    ensures { RunParts settings log cpu page0.old len0 page1.old len1 entries.old result page0.new page1.new entries.new }
+    ensures { RunParts settings log.entry cpu page0.old len0 page1.old len1 result page0.new page1.new log.exit }
 {
     crate::run(
         cpu,
         &mut page0[..len0],
         &mut page1[..len1],
-        entries,
         log,
         settings,
     )

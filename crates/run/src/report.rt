@@ -6,7 +6,7 @@ ghost use Rattle.run.specs.Line.{Printed};
 ghost use Rattle.run.specs.Report.{pages_in, settings_in, answer_line, report_of};
 
 use crate::campaign_file::{Asked, Campaign, Parsed};
-use crate::{Answer, Log, Settings, campaign_file, line, parts};
+use crate::{Answer, Settings, campaign_file, line, parts};
 use execution::Inputs;
 
 // What a call is given by what a file asks.
@@ -33,22 +33,15 @@ fn file_answer(bytes: &[u8], c: Parsed) -> Answer
     let cpu = c.cpu;
     let asked = c.asked;
     let settings = settings_of(asked);
-    let mut entries = [0u32; 1];
-    let log = Log {
-        lent: false,
-        used: 0,
-    };
-    let r = parts::run_parts(
+    parts::run_parts(
         cpu,
         &mut page0,
         c.page0_len,
         &mut page1,
         c.page1_len,
-        &mut entries,
-        log,
+        None,
         settings,
-    );
-    r.answer
+    )
 }
 
 // The line of a call.
@@ -57,7 +50,7 @@ pub fn answer_line(out: &mut [u8; 200], a: Answer) -> usize
 {
     let end = a.end;
     let cpu = a.cpu;
-    line::line(out, crate::number(end), a.steps, a.states, cpu)
+    line::line(out, end.number(), a.steps, a.states, cpu)
 }
 
 // The line of a campaign file, at the start of a buffer; its length is returned.

@@ -100,8 +100,11 @@ pub extern "C" fn lh5801_call(
         entries: log,
         used: log_used,
     };
-    let lent = if logged { Some(&mut log) } else { None };
-    let answer = run::run(cpu, page0, page1, lent, settings);
+    let answer = if logged {
+        run::run(cpu, page0, page1, Some(&mut log), settings)
+    } else {
+        run::run(cpu, page0, page1, None, settings)
+    };
     *words = words_of(answer);
     log.used
 }

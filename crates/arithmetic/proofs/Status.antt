@@ -152,7 +152,7 @@ module _ (m : Lh5801) where
       ∙ ap (λ (b : Bool). status m.bf m.is_halted m.ir0 m.ir1 m.ir2 m.is_timer_reached b m.tm m.ticks) e
 
   -- and so does each operation
-  pub keeps_sum : (s : Sum) → Enabled s.t m.t → status_of (with_sum m s) ≡ status_of m
+  pub keeps_sum : (s : Sum ℕ) → Enabled s.t m.t → status_of (with_sum m s) ≡ status_of m
   keeps_sum s e = keeps_t (with_a m s.value) s.t (keeps_a s.value) e
 
   pub keeps_add : (left right : ℕ) (carry : Bool) → status_of (with_sum m (add_of m.t left right carry)) ≡ status_of m

@@ -13,11 +13,11 @@ adjust true false = 0xFA
 adjust true true = 0x00
 
 -- the sum with its result adjusted and wrapped; the flags are those of the sum before that
-abbrev pub adjusted : Sum → Sum
+abbrev pub adjusted : Sum ℕ → Sum ℕ
 adjusted s = record { value = (s.value + adjust (has_flag s.t CF) (has_flag s.t HF)) % 256; t = s.t }
 
 -- `decimaladd_generic`
-unfoldable pub decimal_sum_of : ℕ → ℕ → ℕ → Bool → Sum
+unfoldable pub decimal_sum_of : ℕ → ℕ → ℕ → Bool → Sum ℕ
 decimal_sum_of t left right carry = adjusted (add_of t left right carry)
 
 -- "A + 66 wrapped to 8 bits"
@@ -25,11 +25,11 @@ abbrev pub plus66 : ℕ → ℕ
 plus66 a = (a + 0x66) % 256
 
 -- DCA on A, T and an operand: left is A + 66
-unfoldable pub dca_sum : ℕ → ℕ → ℕ → Sum
+unfoldable pub dca_sum : ℕ → ℕ → ℕ → Sum ℕ
 dca_sum t a d = decimal_sum_of t (plus66 a) d (has_flag t CF)
 
 -- DCS on A, T and an operand: the operand is inverted
-unfoldable pub dcs_sum : ℕ → ℕ → ℕ → Sum
+unfoldable pub dcs_sum : ℕ → ℕ → ℕ → Sum ℕ
 dcs_sum t a d = decimal_sum_of t a (inverted d) (has_flag t CF)
 
 unfoldable pub dca_of : Lh5801 → ℕ → Lh5801

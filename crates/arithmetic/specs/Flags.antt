@@ -35,12 +35,9 @@ set_flag t mask v = cond v (bit_or t mask) (bit_and t (255 - mask))
 abbrev pub check_z : ℕ → ℕ → ℕ
 check_z t value = set_flag t ZF (value == 0)
 
--- T with C, Z, V and H as given, each 0 or 1; its upper three bits and IE are kept
-abbrev pub with_bits : ℕ → ℕ → ℕ → ℕ → ℕ → ℕ
-with_bits t c z v h = t / 32 * 32 + h * HF + v * VF + z * ZF + t / 2 % 2 * IE + c * CF
-
+-- T with C, Z, V and H as given; its upper three bits and IE are kept
 unfoldable pub with_flags : ℕ → Bool → Bool → Bool → Bool → ℕ
-with_flags t c z v h = with_bits t (bit_of c) (bit_of z) (bit_of v) (bit_of h)
+with_flags t c z v h = t / 32 * 32 + bit_of h * HF + bit_of v * VF + bit_of z * ZF + t / 2 % 2 * IE + bit_of c * CF
 
 -- what a new T tells beside the old one: C, Z, V and H are as given, IE and the upper three bits are the old ones
 pub record FlagsAre (old : ℕ) (c z v h : Bool) (new : ℕ) : Type 0 where

@@ -1,8 +1,8 @@
 // Flags and arithmetic of the LH5801.
 #![tactic(auto)]
 
-ghost use Rattle.std.specs.Prelude.{◌≡◌, ◌≤◌};
-ghost use Rattle.arithmetic.specs.Flags.{bit_of, has_flag, set_flag, check_z, with_bits, with_flags};
+ghost use Rattle.std.specs.Prelude.{◌≡◌};
+ghost use Rattle.arithmetic.specs.Flags.{has_flag, set_flag, check_z, with_flags};
 ghost use Rattle.arithmetic.specs.Sums.{overflow_of, add_of, with_sum, adc_of, sbc_of, cpa_of, inc_of, dec_of, adr_of};
 ghost use Rattle.arithmetic.specs.Decimal.{adjust, decimal_sum_of, dca_of, dcs_of};
 ghost use Rattle.arithmetic.specs.Logic.{lda_of, and_of, ora_of, eor_of, bit_test_of, tta_of};
@@ -12,6 +12,7 @@ use crate::record::Lh5801;
 
 pub mod record;
 
+// Masks and no enum: get_flag and set_flag take any mask.
 pub const CF: u8 = 0x01;
 
 pub const IE: u8 = 0x02;
@@ -22,29 +23,22 @@ pub const VF: u8 = 0x08;
 
 pub const HF: u8 = 0x10;
 
-// A result byte with the T that goes with it.
-#[derive(Clone, Copy)]
-pub struct Sum {
-    pub value: u8,
-    pub t: u8,
-}
-
-// The same with a result of 16 bits.
-#[derive(Clone, Copy)]
-pub struct WideSum {
-    pub value: u16,
+// A result of 8 or 16 bits with the T that goes with it.
+#[derive(Clone, Copy, Debug, PartialEq, Eq)]
+pub struct Sum<T> {
+    pub value: T,
     pub t: u8,
 }
 
 // A and the memory byte after a move of digits.
-#[derive(Clone, Copy)]
+#[derive(Clone, Copy, Debug, PartialEq, Eq)]
 pub struct Moved {
     pub a: u8,
     pub byte: u8,
 }
 
-// U after LOP has counted UL down, and whether it branches.
-#[derive(Clone, Copy)]
+// U after LOP has counted UL down, and whether it branches: no Option, since U changes either way.
+#[derive(Clone, Copy, Debug, PartialEq, Eq)]
 pub struct Looped {
     pub u: u16,
     pub again: bool,
@@ -70,62 +64,49 @@ pub fn check_z(t: u8, value: u8) -> u8
     set_flag(t, ZF, value == 0)
 }
 
-// A flag as a number.
-fn bit_of(flag: bool) -> u8
-    ensures { (result ≡ bit_of flag) × (result ≤ 1) }
-{
-    if flag { 1 } else { 0 }
-}
-
-// T with C, Z, V and H as given, each 0 or 1; its upper three bits and IE are kept.
-fn with_bits(t: u8, c: u8, z: u8, v: u8, h: u8) -> u8
-    requires { (c ≤ 1) × (z ≤ 1) × (v ≤ 1) × (h ≤ 1) }
-    ensures { result ≡ with_bits t c z v h }
-{
-    t / 32 * 32 + h * 16 + v * 8 + z * 4 + t / 2 % 2 * 2 + c
-}
-
-// The same of truth values.
+// T with C, Z, V and H as given; its upper three bits and IE are kept. A sum as the definition's, so that no law of bits is needed.
+#[tactic(auto, unfolding(crate::specs::Flags::with_flags))]
 fn set_flags(t: u8, c: bool, z: bool, v: bool, h: bool) -> u8
     ensures { result ≡ with_flags t c z v h }
 {
-    let half = bit_of(h);
-    let over = bit_of(v);
-    let zero = bit_of(z);
-    let carry = bit_of(c);
-    with_bits(t, carry, zero, over, half)
+    t / 32 * 32
+        + u8::from(h) * HF
+        + u8::from(v) * VF
+        + u8::from(z) * ZF
+        + t / 2 % 2 * IE
+        + u8::from(c) * CF
 }
 
-// V of a sum: both operands differ from the result in bit 7.
-fn overflow(left: u8, right: u8, res: u8) -> u8
-    ensures { (result ≡ bit_of (overflow_of left right res)) × (result ≤ 1) }
+// V of a sum: both operands differ from the result in bit 7. By `^` and `&`, since two `!=` take more machine instructions.
+fn overflow(left: u8, right: u8, res: u8) -> bool
+    ensures { result ≡ overflow_of left right res }
 {
-    (left / 128 ^ res / 128) & (right / 128 ^ res / 128)
+    (left / 128 ^ res / 128) & (right / 128 ^ res / 128) != 0
 }
 
-pub fn add_generic(t: u8, left: u8, right: u8, carry: bool) -> Sum
+#[tactic(auto, unfolding(crate::specs::Sums::add_of))]
+pub fn add_generic(t: u8, left: u8, right: u8, carry: bool) -> Sum<u8>
     ensures { result ≡ add_of t left right carry }
 {
-    let c = bit_of(carry);
-    let sum = left as u16 + right as u16 + c as u16;
+    let c = u8::from(carry);
+    let sum = u16::from(left) + u16::from(right) + u16::from(c);
     let low = (sum % 256) as u8;
-    let half = (left % 16 + right % 16 + c) / 16;
+    let half = left % 16 + right % 16 + c;
     let v = overflow(left, right, low);
-    let z = bit_of(low == 0);
-    let flags = with_bits(t, (sum / 256) as u8, z, v, half);
     Sum {
         value: low,
-        t: flags,
+        t: set_flags(t, sum & 0x100 != 0, low == 0, v, half & 0x10 != 0),
     }
 }
 
-// A and T from a sum.
-fn with_sum(cpu: Lh5801, s: Sum) -> Lh5801
+// A and T from a sum. Below, each instruction is a function of its name, over what it shares with others.
+fn with_sum(cpu: Lh5801, s: Sum<u8>) -> Lh5801
     ensures { result ≡ with_sum cpu s }
 {
     cpu.with_a(s.value).with_t(s.t)
 }
 
+#[tactic(auto, unfolding(crate::specs::Sums::adc_of))]
 pub fn adc(cpu: Lh5801, operand: u8) -> Lh5801
     ensures { result ≡ adc_of cpu operand }
 {
@@ -134,6 +115,7 @@ pub fn adc(cpu: Lh5801, operand: u8) -> Lh5801
     with_sum(cpu, s)
 }
 
+#[tactic(auto, unfolding(crate::specs::Sums::sbc_of))]
 pub fn sbc(cpu: Lh5801, operand: u8) -> Lh5801
     ensures { result ≡ sbc_of cpu operand }
 {
@@ -143,6 +125,7 @@ pub fn sbc(cpu: Lh5801, operand: u8) -> Lh5801
 }
 
 // Only the flags of a - b.
+#[tactic(auto, unfolding(crate::specs::Sums::cpa_of))]
 pub fn cpa(cpu: Lh5801, a: u8, b: u8) -> Lh5801
     ensures { result ≡ cpa_of cpu a b }
 {
@@ -162,26 +145,29 @@ fn adjustment(carry: bool, half: bool) -> u8
 }
 
 // The flags are those of the sum before the adjustment.
-pub fn decimaladd_generic(t: u8, left: u8, right: u8, carry: bool) -> Sum
+#[tactic(auto, unfolding(crate::specs::Decimal::decimal_sum_of))]
+pub fn decimaladd_generic(t: u8, left: u8, right: u8, carry: bool) -> Sum<u8>
     ensures { result ≡ decimal_sum_of t left right carry }
 {
     let s = add_generic(t, left, right, carry);
     let c = get_flag(s.t, CF);
     let h = get_flag(s.t, HF);
     let gain = adjustment(c, h);
-    let v = std::num::wrapping_add_u8(s.value, gain);
+    let v = s.value.wrapping_add(gain);
     Sum { value: v, t: s.t }
 }
 
+#[tactic(auto, unfolding(crate::specs::Decimal::dca_of, crate::specs::Decimal::dca_sum))]
 pub fn dca(cpu: Lh5801, operand: u8) -> Lh5801
     ensures { result ≡ dca_of cpu operand }
 {
-    let left = std::num::wrapping_add_u8(cpu.a, 0x66);
+    let left = cpu.a.wrapping_add(0x66);
     let c = get_flag(cpu.t, CF);
     let s = decimaladd_generic(cpu.t, left, operand, c);
     with_sum(cpu, s)
 }
 
+#[tactic(auto, unfolding(crate::specs::Decimal::dcs_of, crate::specs::Decimal::dcs_sum))]
 pub fn dcs(cpu: Lh5801, operand: u8) -> Lh5801
     ensures { result ≡ dcs_of cpu operand }
 {
@@ -191,6 +177,7 @@ pub fn dcs(cpu: Lh5801, operand: u8) -> Lh5801
 }
 
 // A loaded, and Z from it.
+#[tactic(auto, unfolding(crate::specs::Logic::lda_of))]
 pub fn lda(cpu: Lh5801, operand: u8) -> Lh5801
     ensures { result ≡ lda_of cpu operand }
 {
@@ -198,18 +185,21 @@ pub fn lda(cpu: Lh5801, operand: u8) -> Lh5801
     cpu.with_a(operand).with_t(t)
 }
 
+#[tactic(auto, unfolding(crate::specs::Logic::and_of))]
 pub fn and(cpu: Lh5801, operand: u8) -> Lh5801
     ensures { result ≡ and_of cpu operand }
 {
     lda(cpu, cpu.a & operand)
 }
 
+#[tactic(auto, unfolding(crate::specs::Logic::ora_of))]
 pub fn ora(cpu: Lh5801, operand: u8) -> Lh5801
     ensures { result ≡ ora_of cpu operand }
 {
     lda(cpu, cpu.a | operand)
 }
 
+#[tactic(auto, unfolding(crate::specs::Logic::eor_of))]
 pub fn eor(cpu: Lh5801, operand: u8) -> Lh5801
     ensures { result ≡ eor_of cpu operand }
 {
@@ -217,6 +207,7 @@ pub fn eor(cpu: Lh5801, operand: u8) -> Lh5801
 }
 
 // Z from the common bits of two bytes.
+#[tactic(auto, unfolding(crate::specs::Logic::bit_test_of))]
 pub fn bit(cpu: Lh5801, a: u8, b: u8) -> Lh5801
     ensures { result ≡ bit_test_of cpu a b }
 {
@@ -225,6 +216,7 @@ pub fn bit(cpu: Lh5801, a: u8, b: u8) -> Lh5801
 }
 
 // T to A with Z from it, and Z once more from the T so changed.
+#[tactic(auto, unfolding(crate::specs::Logic::tta_of))]
 pub fn tta(cpu: Lh5801) -> Lh5801
     ensures { result ≡ tta_of cpu }
 {
@@ -233,35 +225,34 @@ pub fn tta(cpu: Lh5801) -> Lh5801
     once.with_t(t)
 }
 
-pub fn inc(t: u8, value: u8) -> Sum
+pub fn inc(t: u8, value: u8) -> Sum<u8>
     ensures { result ≡ inc_of t value }
 {
     add_generic(t, value, 1, false)
 }
 
-pub fn dec(t: u8, value: u8) -> Sum
+pub fn dec(t: u8, value: u8) -> Sum<u8>
     ensures { result ≡ dec_of t value }
 {
     add_generic(t, value, 0xff, false)
 }
 
-// R + A, and T as it was.
-pub fn adr(t: u8, reg: u16, a: u8) -> WideSum
+// R + A, and T as it was. Document 01's two sums of bytes are this one of 16 bits, by adr_sum.
+#[tactic(auto, using(crate::proofs::Flags::adr_sum), unfolding(crate::specs::Sums::adr_of))]
+pub fn adr(t: u8, reg: u16, a: u8) -> Sum<u16>
     ensures { result ≡ adr_of t reg a }
 {
-    let rl = add_generic(t, (reg % 256) as u8, a, false);
-    let c = get_flag(rl.t, CF);
-    let rh = std::num::wrapping_add_u8((reg / 256) as u8, bit_of(c));
-    let sum = rh as u16 * 256 + rl.value as u16;
-    WideSum { value: sum, t: t }
+    let sum = reg.wrapping_add(u16::from(a));
+    Sum { value: sum, t }
 }
 
 // A one place to the left, with C, Z, V and H.
+#[tactic(auto, unfolding(crate::specs::Shifts::left_of))]
 fn shifted_left(cpu: Lh5801, low: bool) -> Lh5801
     ensures { result ≡ left_of cpu low }
 {
     let l = cpu.a;
-    let value = l % 128 * 2 + bit_of(low);
+    let value = l % 128 * 2 + u8::from(low);
     let v = (64 <= l) & (l < 192);
     let t = set_flags(cpu.t, l & 0x80 != 0, value == 0, v, value & 0x10 != 0);
     cpu.with_a(value).with_t(t)
@@ -277,11 +268,12 @@ fn right_overflow(before: u8, after: u8) -> bool
 }
 
 // A one place to the right, with C, Z, V and H.
+#[tactic(auto, unfolding(crate::specs::Shifts::right_of))]
 fn shifted_right(cpu: Lh5801, high: bool) -> Lh5801
     ensures { result ≡ right_of cpu high }
 {
     let l = cpu.a;
-    let value = l / 2 + bit_of(high) * 128;
+    let value = l / 2 + u8::from(high) * 128;
     let v = right_overflow(l, value);
     let t = set_flags(cpu.t, l & 0x01 != 0, value == 0, v, value & 0x08 != 0);
     cpu.with_a(value).with_t(t)

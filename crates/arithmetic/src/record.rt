@@ -1,8 +1,10 @@
 // The record of the LH5801: the fields of the Rust's `Lh5801` that document 01 keeps, by value.
+#![tactic(auto, unfolding(crate::specs::Record::with_a, crate::specs::Record::with_t, crate::specs::Record::with_x, crate::specs::Record::with_y, crate::specs::Record::with_u, crate::specs::Record::with_s, crate::specs::Record::with_p, crate::specs::Record::with_is_halted, crate::specs::Record::with_pu, crate::specs::Record::with_pv, crate::specs::Record::with_bf, crate::specs::Record::with_disp, crate::specs::Record::with_tm, crate::specs::Record::with_ir0, crate::specs::Record::with_ir1, crate::specs::Record::with_ir2, crate::specs::Record::with_is_timer_reached, crate::specs::Record::with_timer_state, crate::specs::Record::with_step_previous_state, crate::specs::Record::with_ticks))]
+
 ghost use Rattle.std.specs.Prelude.{◌≡◌};
 ghost use Rattle.arithmetic.specs.Record.{with_a, with_t, with_x, with_y, with_u, with_s, with_p, with_is_halted, with_pu, with_pv, with_bf, with_disp, with_tm, with_ir0, with_ir1, with_ir2, with_is_timer_reached, with_timer_state, with_step_previous_state, with_ticks};
 
-#[derive(Clone, Copy)]
+#[derive(Clone, Copy, Debug, Default, PartialEq, Eq)]
 pub struct Lh5801 {
     // accumulator
     pub a: u8,
@@ -43,7 +45,8 @@ pub struct Lh5801 {
 
 impl Lh5801 {
     // The same record, field by field. A setter that starts from here keeps the fields in registers:
-    // a whole copy with one store after it would go through memory (docs/DECISIONS.md).
+    // a whole copy with one store after it would go through memory (docs/DECISIONS.md). A parameter cannot
+    // name a field, so each has a setter of its own.
     fn each(self) -> Self
         ensures { result ≡ self }
     {

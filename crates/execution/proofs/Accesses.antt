@@ -12,9 +12,10 @@ use Rattle.execution.specs.declared.places.Place.{Place}
 use Rattle.execution.specs.declared.places.Place.TheVariants.{InHalf, Pointer, Fixed, InCode}
 use Rattle.execution.specs.declared.instructions.Instruction.{Instruction}
 use Rattle.execution.specs.declared.instructions.Instruction.TheVariants.{Alu, Sta, Memory, Bii, Drr, Drl, Load, Compare, Inc, Dec, IncWord, DecWord, Sin, Sde, Lin, Lde, Branch, Lop, VectorIf, Vector, Jmp, Sjp, Rtn, Rti, LoadS, Tin, Cin, OnA, Sets, PopWord, PushWord, PopA, PushA, ToX, FromX, DropWord, Adr, Off, Hlt, Cdv, Nop}
-use Rattle.execution.specs.declared.instructions.Decoded.{Decoded}
-use Rattle.execution.specs.declared.instructions.Decoded.TheVariants.{Listed, Unlisted}
-use Rattle.execution.specs.declared.Fetched.{Fetched}
+use Rattle.execution.specs.declared.instructions.Listed.{Listed}
+use Rattle.std.specs.Prelude.{Option, Some, None}
+use Rattle.pages.specs.declared.Code.{Code}
+use Rattle.execution.specs.declared.Opcode.{Opcode}
 use Rattle.execution.specs.Places.{word_in, locate_of, operand_of}
 use Rattle.execution.specs.Instructions.{alu_of, store_of, sta_of, memory_of, bii_of, drr_of, drl_of, load_of, compare_of, store_at_of, load_at_of, sin_of, sde_of, lin_of, lde_of, holds_of, branch_of, lop_of, vector_of, vector_if_of, jmp_of, sjp_of, rtn_of, rti_of, load_sOf, tin_of, cin_of, pop_to_of, push_from_of, execute_of}
 use Rattle.execution.specs.Step.{decoded_by, fetch_of, decoded_step_of, instruction_of, interrupt_of, powered_of, step_of}
@@ -79,7 +80,7 @@ most_executed m inputs (Sin r) = most_then 1 4 _ _ (most_store_at m r) (λ k. tt
 most_executed m inputs (Sde r) = most_then 1 4 _ _ (most_store_at m r) (λ k. tt)
 most_executed m inputs (Lin r) = most_then 1 4 _ _ (most_load_at m r) (λ k. tt)
 most_executed m inputs (Lde r) = most_then 1 4 _ _ (most_load_at m r) (λ k. tt)
-most_executed m inputs (Branch forward c) = most_then 1 4 _ _ (most_readop _) (λ f. tt)
+most_executed m inputs (Branch direction c) = most_then 1 4 _ _ (most_readop _) (λ f. tt)
 most_executed m inputs Lop = most_then 1 4 _ _ (most_readop _) (λ f. tt)
 most_executed m inputs (VectorIf c) = most_then 1 4 _ _ (most_readop _) (λ f. cond_both (AtMost 4) (holds_of m.t c) _ _ (most_vector _ _) tt)
 most_executed m inputs (Vector nr) = most_more 4 5 (vector_of m nr) (omega arith) (most_vector m nr)
@@ -107,16 +108,16 @@ most_executed m inputs Nop = tt
 
 most_fetch : (p : ℕ) → AtMost 2 (fetch_of p)
 unfolding fetch_of
-most_fetch p = most_then 1 1 _ _ (most_readop p) (λ b. cond_both (AtMost {A = Fetched} 1) (eqb b.value 0xFD) _ _ (most_then 1 0 _ _ (most_readop _) (λ c. tt)) tt)
+most_fetch p = most_then 1 1 _ _ (most_readop p) (λ b. cond_both (AtMost {A = Code Opcode} 1) (eqb b.value 0xFD) _ _ (most_then 1 0 _ _ (most_readop _) (λ c. tt)) tt)
 
-most_decoded : (m : Lh5801) (inputs : Inputs) (o : Fetched) (d : Decoded) → AtMost 5 (decoded_step_of m inputs o d)
+most_decoded : (m : Lh5801) (inputs : Inputs) (o : Code Opcode) (d : Option Listed) → AtMost 5 (decoded_step_of m inputs o d)
 unfolding decoded_step_of
-most_decoded m inputs o (Listed i n) = most_then 5 0 _ _ (most_executed (with_p m o.p) inputs i) (λ k. tt)
-most_decoded m inputs o Unlisted = tt
+most_decoded m inputs o (Some l) = most_then 5 0 _ _ (most_executed (with_p m o.p) inputs l.instruction) (λ k. tt)
+most_decoded m inputs o None = tt
 
 most_instruction : (m : Lh5801) (inputs : Inputs) → AtMost 7 (instruction_of m inputs)
 unfolding instruction_of
-most_instruction m inputs = most_then 2 5 _ _ (most_fetch m.p) (λ o. most_decoded m inputs o (decoded_by o.fd o.byte))
+most_instruction m inputs = most_then 2 5 _ _ (most_fetch m.p) (λ o. most_decoded m inputs o (decoded_by o.value))
 
 most_interrupt : (m : Lh5801) (vector : ℕ) → AtMost 7 (interrupt_of m vector)
 unfolding interrupt_of

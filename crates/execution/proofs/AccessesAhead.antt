@@ -10,7 +10,6 @@ use Rattle.pages.specs.Pages.{Pages, at, stored, store, SameLength}
 use Rattle.pages.specs.Prog.{Prog, done, ◌>>=◌, read, write, Access, read_of, after, exec}
 use Rattle.pages.specs.Stack.{up16, down16, readop_of, readop_word_of, mem16_of, push_of, push_word_of, pop_of, pop_word_of, push_state_of, accept_of}
 use Rattle.pages.specs.Timer.{add_state_of, timer_part_of}
-use Rattle.pages.specs.Contract.{Does}
 use Rattle.pages.proofs.Exec.{bind_answer, bind_accesses}
 use Rattle.pages.proofs.Pages.{store_long, stored_long, at_store}
 use Rattle.execution.specs.declared.Inputs.{Inputs}
@@ -24,9 +23,11 @@ use Rattle.execution.specs.declared.instructions.Condition.{Condition}
 use Rattle.execution.specs.declared.instructions.Condition.TheVariants.{NoCarry, Carry, NoHalfCarry, HalfCarry, NotZero, Zero, NoOverflow, Overflow, Always}
 use Rattle.execution.specs.declared.instructions.Instruction.{Instruction}
 use Rattle.execution.specs.declared.instructions.Instruction.TheVariants.{Alu, Sta, Memory, Bii, Drr, Drl, Load, Compare, Inc, Dec, IncWord, DecWord, Sin, Sde, Lin, Lde, Branch, Lop, VectorIf, Vector, Jmp, Sjp, Rtn, Rti, LoadS, Tin, Cin, OnA, Sets, PopWord, PushWord, PopA, PushA, ToX, FromX, DropWord, Adr, Off, Hlt, Cdv, Nop}
-use Rattle.execution.specs.declared.instructions.Decoded.{Decoded}
-use Rattle.execution.specs.declared.instructions.Decoded.TheVariants.{Listed, Unlisted}
-use Rattle.execution.specs.declared.Fetched.{Fetched}
+use Rattle.execution.specs.declared.instructions.Listed.{Listed}
+use Rattle.std.specs.Prelude.{Option, Some, None}
+use Rattle.pages.specs.declared.Code.{Code}
+use Rattle.execution.specs.declared.Opcode.{Opcode}
+use Rattle.execution.specs.declared.Opcode.TheVariants.{First, AfterFd}
 use Rattle.execution.specs.Places.{locate_of, operand_of}
 use Rattle.execution.specs.Instructions.{operated, alu_of, store_of, sta_of, memory_of, bii_of, drr_of, drl_of, load_of, compare_of, store_at_of, load_at_of, sin_of, sde_of, lin_of, lde_of, holds_of, branch_of, lop_of, vector_of, vector_if_of, jmp_of, sjp_of, rtn_of, rti_of, load_sOf, tin_of, cin_of, pop_to_of, push_from_of, execute_of}
 use Rattle.execution.specs.Opcodes.{rows, decoded}
@@ -34,7 +35,7 @@ use Rattle.execution.specs.OpcodesFd.{rows_fd, decoded_fd}
 use Rattle.execution.specs.States.{added_of}
 use Rattle.execution.specs.Step.{StepEnd, did, stopped, instruction, fetched, fetch_of, decoded_by, decoded_step_of, instruction_of, interrupt_of, reached_of, halted_of, powered_of, step_of}
 use Rattle.execution.specs.Completed.{of_completed, completed_accesses}
-use Rattle.execution.specs.Code.Shapes.{opcode_at, after_write, after_push_word, vector_accesses, accept_accesses, shape_accesses, place_shape, operand_shape, store_shape, change_number, shape_of, shape_in, shape_by, opcode_accesses, fetched_accesses, instruction_accesses, powered_accesses, step_accesses}
+use Rattle.execution.specs.Code.Shapes.{opcode_at, byte_of, after_write, after_push_word, vector_accesses, accept_accesses, shape_accesses, place_shape, operand_shape, store_shape, change_number, shape_of, shape_in, shape_by, opcode_accesses, fetched_accesses, instruction_accesses, powered_accesses, step_accesses}
 use Rattle.execution.proofs.Listed.{past_rows}
 use Rattle.execution.proofs.Choices.{cond_both}
 use Rattle.execution.proofs.OpcodeRead.{fetch_answer, fetch_pages}
@@ -177,7 +178,7 @@ executed_accesses m inputs byte (Lin U) pages t = refl
 executed_accesses m inputs byte (Lde X) pages t = refl
 executed_accesses m inputs byte (Lde Y) pages t = refl
 executed_accesses m inputs byte (Lde U) pages t = refl
-executed_accesses m inputs byte (Branch forward c) pages t = refl
+executed_accesses m inputs byte (Branch direction c) pages t = refl
 executed_accesses m inputs byte Lop pages t = refl
 executed_accesses m inputs byte (VectorIf NoCarry) pages t = vector_if_accesses_lem m pages NoCarry (holds_of m.t NoCarry) refl
 executed_accesses m inputs byte (VectorIf Carry) pages t = vector_if_accesses_lem m pages Carry (holds_of m.t Carry) refl
@@ -214,11 +215,11 @@ executed_accesses m inputs byte Cdv pages t = refl
 executed_accesses m inputs byte Nop pages t = refl
 
 -- the shape of an entry of the opcode tables is below 254: a test computed over both
-abbrev has_shape : ℕ → Decoded → Bool
-has_shape byte (Listed i n) = ltb (shape_of byte i) 254
-has_shape byte Unlisted = true
+abbrev has_shape : ℕ → Option Listed → Bool
+has_shape byte (Some l) = ltb (shape_of byte l.instruction) 254
+has_shape byte None = true
 
-has_shape_at : (page : ℕ → Decoded) → T (every (λ (b : ℕ). has_shape b (page b)) 0 256) → ((b : ℕ) → 256 ≤ b → page b ≡ Unlisted)
+has_shape_at : (page : ℕ → Option Listed) → T (every (λ (b : ℕ). has_shape b (page b)) 0 256) → ((b : ℕ) → 256 ≤ b → page b ≡ None)
     → (byte : ℕ) → T (has_shape byte (page byte))
 has_shape_at page t past byte = go (ltb byte 256) refl
   where
@@ -226,61 +227,63 @@ has_shape_at page t past byte = go (ltb byte 256) refl
     go true h = test_at (λ (b : ℕ). has_shape b (page b)) 256 t byte (ltb-true byte 256 h)
     go false h = rw (past byte (ltb-false byte 256 h)) tt
 
-has_shape_lem : (fd : Bool) (byte : ℕ) → T (has_shape byte (decoded_by fd byte))
+has_shape_lem : (opcode : Opcode) → T (has_shape (byte_of opcode) (decoded_by opcode))
 unfolding decoded decoded_fd
-has_shape_lem true = has_shape_at decoded_fd tt (past_rows rows_fd refl)
-has_shape_lem false = has_shape_at decoded tt (past_rows rows refl)
+has_shape_lem (AfterFd byte) = has_shape_at decoded_fd tt (past_rows rows_fd refl) byte
+has_shape_lem (First byte) = has_shape_at decoded tt (past_rows rows refl) byte
 
 -- the opcode's own bytes
-fetch_accesses : (pages : Pages) (p : ℕ) → (exec (fetch_of p) pages).accesses ≡ opcode_accesses pages p (opcode_at pages p).fd
+fetch_accesses : (pages : Pages) (p : ℕ) → (exec (fetch_of p) pages).accesses ≡ opcode_accesses pages p (opcode_at pages p).value
 unfolding fetch_of readop_of read ◌>>=◌ exec after
 fetch_accesses pages p = go (eqb (at pages p) 0xFD)
   where
     go : (t : Bool)
         → read_of p (at pages p)
-        ∷ (exec (cond t (readop_of (up16 p) >>= (λ second. done (fetched true second.value second.p))) (done (fetched false (at pages p) (up16 p)))) pages).accesses
-        ≡ opcode_accesses pages p (cond t (fetched true (at pages (up16 p)) (up16 (up16 p))) (fetched false (at pages p) (up16 p))).fd
+        ∷ (exec (cond t (readop_of (up16 p) >>= (λ second. done (fetched (AfterFd second.value) second.p))) (done (fetched (First (at pages p)) (up16 p)))) pages).accesses
+        ≡ opcode_accesses pages p (cond t (fetched (AfterFd (at pages (up16 p))) (up16 (up16 p))) (fetched (First (at pages p)) (up16 p))).value
     go true = refl
     go false = refl
 
 -- what a decoded byte does, after the accesses l of the opcode
-decoded_accesses : (m : Lh5801) (inputs : Inputs) (o : Fetched) (d : Decoded) (pages : Pages) (l : List Access) → T (has_shape o.byte d)
+decoded_accesses : (m : Lh5801) (inputs : Inputs) (o : Code Opcode) (d : Option Listed) (pages : Pages) (l : List Access) → T (has_shape (byte_of o.value) d)
     → of_completed (exec (decoded_step_of m inputs o d) pages).answer (l ++ (exec (decoded_step_of m inputs o d) pages).accesses)
-    ≡ cond (eqb (shape_in o.byte d) 255) [] (l ++ shape_accesses (with_p m o.p) pages o.byte (shape_in o.byte d))
+    ≡ cond (eqb (shape_in (byte_of o.value) d) 255) [] (l ++ shape_accesses (with_p m o.p) pages (byte_of o.value) (shape_in (byte_of o.value) d))
 unfolding decoded_step_of exec
-decoded_accesses m inputs o (Listed i n) pages l t =
-    let low : shape_of o.byte i < 254 = ltb→lt (shape_of o.byte i) 254 t in
+decoded_accesses m inputs o (Some d) pages l t =
+    let i = d.instruction in
+    let n = d.states in
+    let low : shape_of (byte_of o.value) i < 254 = ltb→lt (shape_of (byte_of o.value) i) 254 t in
     rw (
-      bind_answer (execute_of (with_p m o.p) inputs i) (λ k. done (did (timer_part_of (add_state_of k n)) (n + added_of m i) (instruction o.fd o.byte))) pages,
-      bind_accesses (execute_of (with_p m o.p) inputs i) (λ k. done (did (timer_part_of (add_state_of k n)) (n + added_of m i) (instruction o.fd o.byte))) pages,
+      bind_answer (execute_of (with_p m o.p) inputs i) (λ k. done (did (timer_part_of (add_state_of k n)) (n + added_of m i) (instruction o.value))) pages,
+      bind_accesses (execute_of (with_p m o.p) inputs i) (λ k. done (did (timer_part_of (add_state_of k n)) (n + added_of m i) (instruction o.value))) pages,
       append-nil,
-      executed_accesses (with_p m o.p) inputs o.byte i pages t,
-      ne_eqb (shape_of o.byte i) 255 (λ e. omega (arith, e)),
+      executed_accesses (with_p m o.p) inputs (byte_of o.value) i pages t,
+      ne_eqb (shape_of (byte_of o.value) i) 255 (λ e. omega (arith, e)),
     )
-decoded_accesses m inputs o Unlisted pages l t = refl
+decoded_accesses m inputs o None pages l t = refl
 
 -- the accesses of a completed instruction, and none of an unlisted one
 instruction_accesses_lem : (m : Lh5801) (inputs : Inputs) (pages : Pages) → completed_accesses (exec (instruction_of m inputs) pages) ≡ instruction_accesses m pages
 unfolding instruction_of instruction_accesses shape_by
 instruction_accesses_lem m inputs pages =
-    let o : Fetched = opcode_at pages m.p in
+    let o : Code Opcode = opcode_at pages m.p in
     rw (
-      bind_answer (fetch_of m.p) (λ f. decoded_step_of m inputs f (decoded_by f.fd f.byte)) pages,
-      bind_accesses (fetch_of m.p) (λ f. decoded_step_of m inputs f (decoded_by f.fd f.byte)) pages,
+      bind_answer (fetch_of m.p) (λ f. decoded_step_of m inputs f (decoded_by f.value)) pages,
+      bind_accesses (fetch_of m.p) (λ f. decoded_step_of m inputs f (decoded_by f.value)) pages,
       fetch_answer pages m.p,
       fetch_pages pages m.p,
       fetch_accesses pages m.p,
     )
-    (decoded_accesses m inputs o (decoded_by o.fd o.byte) pages (opcode_accesses pages m.p o.fd) (has_shape_lem o.fd o.byte))
+    (decoded_accesses m inputs o (decoded_by o.value) pages (opcode_accesses pages m.p o.value) (has_shape_lem o.value))
 
 -- the same, as the code goes about it: from the opcode o and its shape n
-module _ (m : Lh5801) (pages : Pages) {o : Fetched} {n : ℕ} (e : o ≡ opcode_at pages m.p) (f : n ≡ shape_by o.fd o.byte) where
+module _ (m : Lh5801) (pages : Pages) {o : Code Opcode} {n : ℕ} (e : o ≡ opcode_at pages m.p) (f : n ≡ shape_by o.value) where
   pub ahead_unlisted : n ≡ 255 → instruction_accesses m pages ≡ []
   unfolding instruction_accesses
   ahead_unlisted h = ap (fetched_accesses m pages) (sym e) ∙ rw (← f, eq-eqb n 255 h)
 
   pub ahead_listed : {k : Lh5801} → (n ≡ 255 → ⊥) → k ≡ with_p m o.p
-      → instruction_accesses m pages ≡ opcode_accesses pages m.p o.fd ++ shape_accesses k pages o.byte n
+      → instruction_accesses m pages ≡ opcode_accesses pages m.p o.value ++ shape_accesses k pages (byte_of o.value) n
   unfolding instruction_accesses
   ahead_listed h g = ap (fetched_accesses m pages) (sym e) ∙ rw (← f, ne_eqb n 255 h, ← g)
 

@@ -31,6 +31,8 @@ use Rattle.execution.specs.declared.instructions.Accumulator.{Accumulator}
 use Rattle.execution.specs.declared.instructions.Accumulator.TheVariants.{IncA, DecA, Ror, Shr, Shl, Rol, Aex, Tta, Att, Ita, Am0, Am1}
 use Rattle.execution.specs.declared.instructions.Signal.{Signal}
 use Rattle.execution.specs.declared.instructions.Signal.TheVariants.{Pu, Pv, Disp, CarryFlag, InterruptEnable}
+use Rattle.execution.specs.declared.instructions.Direction.{Direction}
+use Rattle.execution.specs.declared.instructions.Direction.TheVariants.{Forward, Backward}
 use Rattle.execution.specs.declared.instructions.Instruction.{Instruction}
 use Rattle.execution.specs.declared.instructions.Instruction.TheVariants.{Alu, Sta, Memory, Bii, Drr, Drl, Load, Compare, Inc, Dec, IncWord, DecWord, Sin, Sde, Lin, Lde, Branch, Lop, VectorIf, Vector, Jmp, Sjp, Rtn, Rti, LoadS, Tin, Cin, OnA, Sets, PopWord, PushWord, PopA, PushA, ToX, FromX, DropWord, Adr, Off, Hlt, Cdv, Nop}
 use Rattle.execution.specs.Places.{word_in, with_word, with_half}
@@ -146,10 +148,10 @@ module _ (m : Lh5801) where
   effect_on_a Am0 key = timed _ (omega arith)
   effect_on_a Am1 key = timed _ (omega arith)
 
-  effect_branched : (k : Lh5801) → status_of k ≡ status_of m → (p offset : ℕ) (c : Condition) (forward : Bool)
-      → Effect m (amount (branch c forward)) true (branched_of k p offset forward)
-  effect_branched k s p offset c true = added _ 2 (keeps_p k _ ∙ s)
-  effect_branched k s p offset c false = added _ 3 (keeps_p k _ ∙ s)
+  effect_branched : (k : Lh5801) → status_of k ≡ status_of m → (p offset : ℕ) (c : Condition) (direction : Direction)
+      → Effect m (amount (branch c direction)) true (branched_of k p offset direction)
+  effect_branched k s p offset c Forward = added _ 2 (keeps_p k _ ∙ s)
+  effect_branched k s p offset c Backward = added _ 3 (keeps_p k _ ∙ s)
 
   -- a vector, from a record with m's status
   effect_vector : (k : Lh5801) (nr : ℕ) → status_of k ≡ status_of m → Always (Effect m 13 true) (vector_of k nr)
@@ -207,8 +209,8 @@ executed m inputs (Sin r) = always_bind _ _ _ _ (keeps_store_at m r) (λ k e. ke
 executed m inputs (Sde r) = always_bind _ _ _ _ (keeps_store_at m r) (λ k e. kept m _ (keeps_word k r _ ∙ e))
 executed m inputs (Lin r) = always_bind _ _ _ _ (keeps_load_at m r) (λ k e. kept m _ (keeps_word k r _ ∙ e))
 executed m inputs (Lde r) = always_bind _ _ _ _ (keeps_load_at m r) (λ k e. kept m _ (keeps_word k r _ ∙ e))
-executed m inputs (Branch forward c) =
-    always_then _ _ _ (λ f. either m (holds_of m.t c) (effect_branched m m refl f.p f.value c forward) (kept m _ (keeps_p m f.p)))
+executed m inputs (Branch direction c) =
+    always_then _ _ _ (λ f. either m (holds_of m.t c) (effect_branched m m refl f.p f.value c direction) (kept m _ (keeps_p m f.p)))
 executed m inputs Lop =
     always_then _ _ _ (λ f. either m (looped_of m.u).again (added m _ 3 (keeps_p _ _ ∙ keeps_u m _)) (kept m _ (keeps_p _ f.p ∙ keeps_u m _)))
 executed m inputs (VectorIf c) = effect_vector_if m c

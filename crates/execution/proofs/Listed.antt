@@ -3,8 +3,9 @@ use Rattle.std.proofs.Common.{◌≡◌, ℕ, ◌+◌, ◌/◌, ◌%◌, ◌≤�
 use lib.ListN.{get_or-eq_default}
 use Rattle.arithmetic.proofs.Compute.{both, both_left, both_right, every, test_at}
 use Rattle.execution.specs.declared.instructions.Instruction.{Instruction}
-use Rattle.execution.specs.declared.instructions.Decoded.{Decoded}
-use Rattle.execution.specs.declared.instructions.Decoded.TheVariants.{Listed, Unlisted}
+use Rattle.execution.specs.declared.instructions.Listed.{Listed}
+use Rattle.std.specs.Prelude.{Option, Some, None}
+use Rattle.execution.specs.Opcodes.{listed}
 use Rattle.execution.specs.Opcodes.{rows, decoded}
 use Rattle.execution.specs.OpcodesFd.{rows_fd, decoded_fd}
 use Rattle.execution.specs.Listed.{listed_first, listed_after_fd, bytes_where, place_fits}
@@ -55,48 +56,48 @@ unfolding decoded_fd
 count_of_bytes_after_fd = (refl, refl)
 
 -- a listed entry costs at least 4 states, and at most 23 with what a taken branch or vector adds
-abbrev states_fit : Decoded → Bool
-states_fit (Listed i n) = both (leb 4 n) (leb (n + added_when_taken i) 23)
-states_fit Unlisted = true
+abbrev states_fit : Option Listed → Bool
+states_fit (Some l) = both (leb 4 l.states) (leb (l.states + added_when_taken l.instruction) 23)
+states_fit None = true
 
 -- a test that each byte of a page passes, and an unlisted one: what it says of an entry
-entry_at : (test : Decoded → Bool) (page : ℕ → Decoded) → T (every (λ (b : ℕ). test (page b)) 0 256) → T (test Unlisted)
-    → ((b : ℕ) → 256 ≤ b → page b ≡ Unlisted)
-    → (byte : ℕ) {d : Decoded} → page byte ≡ d → T (test d)
-entry_at test page all none past byte e = subst (λ (d : Decoded). T (test d)) e (go (ltb byte 256) refl)
+entry_at : (test : Option Listed → Bool) (page : ℕ → Option Listed) → T (every (λ (b : ℕ). test (page b)) 0 256) → T (test None)
+    → ((b : ℕ) → 256 ≤ b → page b ≡ None)
+    → (byte : ℕ) {d : Option Listed} → page byte ≡ d → T (test d)
+entry_at test page all none past byte e = subst (λ (d : Option Listed). T (test d)) e (go (ltb byte 256) refl)
   where
     go : (b : Bool) → ltb byte 256 ≡ b → T (test (page byte))
     go true h = test_at (λ (b : ℕ). test (page b)) 256 all byte (ltb-true byte 256 h)
-    go false h = subst (λ (d : Decoded). T (test d)) (sym (past byte (ltb-false byte 256 h))) none
+    go false h = subst (λ (d : Option Listed). T (test d)) (sym (past byte (ltb-false byte 256 h))) none
 
-states_fit_lem : (i : Instruction) (n : ℕ) → T (states_fit (Listed i n)) → (4 ≤ n) × (n + added_when_taken i ≤ 23)
+states_fit_lem : (i : Instruction) (n : ℕ) → T (states_fit (listed i n)) → (4 ≤ n) × (n + added_when_taken i ≤ 23)
 states_fit_lem i n fit = (
   leb→le 4 n (both_left (leb 4 n) (leb (n + added_when_taken i) 23) fit),
   leb→le (n + added_when_taken i) 23 (both_right (leb 4 n) (leb (n + added_when_taken i) 23) fit),
 )
 
 -- a table of 16 rows lists nothing from 256 on
-pub past_rows : (table : List (List Decoded)) → length table ≡ 16 → (b : ℕ) → 256 ≤ b → get_or (get_or table (b / 16) []) (b % 16) Unlisted ≡ Unlisted
+pub past_rows : (table : List (List (Option Listed))) → length table ≡ 16 → (b : ℕ) → 256 ≤ b → get_or (get_or table (b / 16) []) (b % 16) None ≡ None
 past_rows table l b h = rw (get_or-eq_default table [] {n = b / 16} (omega (arith, l))) refl
 
 -- document 01: each executed instruction adds 4 to 23 states
-pub listed_states : (byte : ℕ) {i : Instruction} {n : ℕ} → decoded byte ≡ Listed i n → (4 ≤ n) × (n + added_when_taken i ≤ 23)
+pub listed_states : (byte : ℕ) {i : Instruction} {n : ℕ} → decoded byte ≡ listed i n → (4 ≤ n) × (n + added_when_taken i ≤ 23)
 unfolding decoded
 listed_states byte {i} {n} e = states_fit_lem i n (entry_at states_fit decoded tt tt (past_rows rows refl) byte e)
 
-pub listed_states_fd : (byte : ℕ) {i : Instruction} {n : ℕ} → decoded_fd byte ≡ Listed i n → (4 ≤ n) × (n + added_when_taken i ≤ 23)
+pub listed_states_fd : (byte : ℕ) {i : Instruction} {n : ℕ} → decoded_fd byte ≡ listed i n → (4 ≤ n) × (n + added_when_taken i ≤ 23)
 unfolding decoded_fd
 listed_states_fd byte {i} {n} e = states_fit_lem i n (entry_at states_fit decoded_fd tt tt (past_rows rows_fd refl) byte e)
 
-abbrev entry_fits : Decoded → Bool
-entry_fits (Listed i n) = place_fits i
-entry_fits Unlisted = true
+abbrev entry_fits : Option Listed → Bool
+entry_fits (Some l) = place_fits l.instruction
+entry_fits None = true
 
 -- no entry of either table uses a place that its instruction has no meaning for
-pub listed_places : (byte : ℕ) {i : Instruction} {n : ℕ} → decoded byte ≡ Listed i n → T (place_fits i)
+pub listed_places : (byte : ℕ) {i : Instruction} {n : ℕ} → decoded byte ≡ listed i n → T (place_fits i)
 unfolding decoded
 listed_places byte e = entry_at entry_fits decoded tt tt (past_rows rows refl) byte e
 
-pub listed_places_fd : (byte : ℕ) {i : Instruction} {n : ℕ} → decoded_fd byte ≡ Listed i n → T (place_fits i)
+pub listed_places_fd : (byte : ℕ) {i : Instruction} {n : ℕ} → decoded_fd byte ≡ listed i n → T (place_fits i)
 unfolding decoded_fd
 listed_places_fd byte e = entry_at entry_fits decoded_fd tt tt (past_rows rows_fd refl) byte e

@@ -6,6 +6,7 @@ use Rattle.pages.specs.Pages.{Pages, at}
 use Rattle.pages.specs.Prog.{done, read, ◌>>=◌, after, exec}
 use Rattle.pages.specs.Stack.{up16, readop_of}
 use Rattle.pages.proofs.Exec.{bind_answer}
+use Rattle.execution.specs.declared.Opcode.TheVariants.{First, AfterFd}
 use Rattle.execution.specs.Step.{fetched, decoded_by, fetch_of, decoded_step_of, instruction_of}
 use Rattle.execution.specs.Code.Shapes.{opcode_at}
 
@@ -15,8 +16,8 @@ unfolding fetch_of readop_of exec after read ◌>>=◌
 fetch_answer pages p = go (eqb (at pages p) 0xFD)
   where
     go : (t : Bool)
-        → (exec (cond t (readop_of (up16 p) >>= (λ second. done (fetched true second.value second.p))) (done (fetched false (at pages p) (up16 p)))) pages).answer
-        ≡ cond t (fetched true (at pages (up16 p)) (up16 (up16 p))) (fetched false (at pages p) (up16 p))
+        → (exec (cond t (readop_of (up16 p) >>= (λ second. done (fetched (AfterFd second.value) second.p))) (done (fetched (First (at pages p)) (up16 p)))) pages).answer
+        ≡ cond t (fetched (AfterFd (at pages (up16 p))) (up16 (up16 p))) (fetched (First (at pages p)) (up16 p))
     go true = refl
     go false = refl
 
@@ -25,7 +26,7 @@ unfolding fetch_of readop_of exec after read ◌>>=◌
 fetch_pages pages p = go (eqb (at pages p) 0xFD)
   where
     go : (t : Bool)
-        → (exec (cond t (readop_of (up16 p) >>= (λ second. done (fetched true second.value second.p))) (done (fetched false (at pages p) (up16 p)))) pages).pages
+        → (exec (cond t (readop_of (up16 p) >>= (λ second. done (fetched (AfterFd second.value) second.p))) (done (fetched (First (at pages p)) (up16 p)))) pages).pages
         ≡ pages
     go true = refl
     go false = refl
@@ -33,7 +34,7 @@ fetch_pages pages p = go (eqb (at pages p) 0xFD)
 -- what an instruction comes to: what the bytes of the pages decode to, executed on the same pages
 pub instruction_answer : (m : Lh5801) (inputs : Inputs) (pages : Pages)
     → (exec (instruction_of m inputs) pages).answer
-    ≡ (exec (decoded_step_of m inputs (opcode_at pages m.p) (decoded_by (opcode_at pages m.p).fd (opcode_at pages m.p).byte)) pages).answer
+    ≡ (exec (decoded_step_of m inputs (opcode_at pages m.p) (decoded_by (opcode_at pages m.p).value)) pages).answer
 unfolding instruction_of
 instruction_answer m inputs pages =
     bind_answer (fetch_of m.p) _ pages ∙ rw (fetch_answer pages m.p, fetch_pages pages m.p)

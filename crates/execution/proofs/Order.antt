@@ -14,18 +14,19 @@ use Rattle.pages.specs.Contract.{Does}
 use Rattle.pages.specs.Stack.{accept_of}
 use Rattle.pages.specs.Timer.{add_state_of, timer_part_of}
 use Rattle.pages.proofs.Does.{does_then, does_done, does_mapped, does_through}
+use Rattle.execution.specs.declared.instructions.Direction.TheVariants.{Backward}
 use Rattle.execution.specs.declared.instructions.Instruction.{Instruction}
-use Rattle.execution.specs.declared.instructions.Decoded.TheVariants.{Listed, Unlisted}
+use Rattle.std.specs.Prelude.{None, Result, Ok, Err}
+use Rattle.execution.specs.Opcodes.{listed}
 use Rattle.execution.specs.declared.Executed.{Executed}
-use Rattle.execution.specs.declared.Executed.TheVariants.{Again, Completed as CompletedThere, Stopped as StoppedThere}
-use Rattle.execution.specs.declared.Fetched.{Fetched}
+use Rattle.execution.specs.declared.Executed.TheVariants.{Again, Completed}
+use Rattle.pages.specs.declared.Code.{Code}
+use Rattle.execution.specs.declared.Opcode.{Opcode}
 use Rattle.execution.specs.declared.Stop.{Stop}
-use Rattle.execution.specs.declared.Stop.TheVariants.{Halted}
-use Rattle.execution.specs.declared.Outcome.{Outcome}
-use Rattle.execution.specs.declared.Outcome.TheVariants.{Completed, Stopped}
+use Rattle.execution.specs.declared.Stop.TheVariants.{Unlisted, Halted}
 use Rattle.execution.specs.Instructions.{branched_of, execute_of}
 use Rattle.execution.specs.States.{added_of}
-use Rattle.execution.specs.Step.{off, held, interrupt, waiting, instruction, StepEnd, did, stopped, fetch_of, decoded_by, unlisted_by, decoded_step_of, instruction_of, interrupt_of, reached_of, halted_of, powered_of, step_of}
+use Rattle.execution.specs.Step.{off, held, interrupt, waiting, instruction, StepEnd, did, stopped, fetch_of, decoded_by, decoded_step_of, instruction_of, interrupt_of, reached_of, halted_of, powered_of, step_of}
 use Rattle.execution.specs.Code.Outcomes.{outcome_of}
 use Rattle.execution.specs.Code.Due.{due_by, due_of, Ready, settled_of, settled_by, executed_of}
 use Rattle.execution.proofs.Effects.{due_in}
@@ -35,7 +36,7 @@ use Rattle.execution.proofs.DueTest.{due_is}
 
 -- how LOP ends, by what its count gave
 abbrev LoopEnd : Lh5801 → ℕ → ℕ → Lh5801 → Looped → Type 0
-LoopEnd m p offset r l = r ≡ cond l.again (branched_of (with_u m l.u) p offset false) (with_p (with_u m l.u) p)
+LoopEnd m p offset r l = r ≡ cond l.again (branched_of (with_u m l.u) p offset Backward) (with_p (with_u m l.u) p)
 
 pub loop_end : (m : Lh5801) (p offset : ℕ) {l : Looped} {r : Lh5801} → l ≡ looped_of m.u → LoopEnd m p offset r l → LoopEnd m p offset r (looped_of m.u)
 loop_end m p offset {r = r} = subst (LoopEnd m p offset r)
@@ -75,7 +76,7 @@ module _ (m : Lh5801) (inputs : Inputs) (on : m.bf ≡ true) (clear : m.is_timer
   unfolding step_of
   step_powered = cond_true _ _ _ on ∙ ap (λ (k : Lh5801). powered_of k inputs) (reached_stays m clear)
 
-  pub step_held : {p : Memory} {r : Lh5801} → m.ir0 ≡ true → r ≡ timer_part_of m → Does (mapped outcome_of (step_of m inputs)) p (Completed r) p
+  pub step_held : {p : Memory} {r : Lh5801} → m.ir0 ≡ true → r ≡ timer_part_of m → Does (mapped outcome_of (step_of m inputs)) p (Ok r) p
   unfolding powered_of
   step_held {r = r} a f =
       rw (step_powered, cond_true _ (done (did (timer_part_of m) 0 held)) _ a)
@@ -87,7 +88,7 @@ module _ (m : Lh5801) (inputs : Inputs) (on : m.bf ≡ true) (clear : m.is_timer
         → vector ≡ cond m.ir1 0xFFFA 0xFFF8
         → Does (accept_of l vector) p k q
         → r ≡ timer_part_of k
-        → Does (mapped outcome_of (step_of m inputs)) p (Completed r) q
+        → Does (mapped outcome_of (step_of m inputs)) p (Ok r) q
     unfolding powered_of interrupt_of
     step_interrupt {r = r} {vector = vector} b u v d f =
         rw (step_powered, ← enabled, some_request interrupt_of _ _ _ _ m.ir0 m.ir1 m.ir2 e free b, ← u, ← v)
@@ -102,11 +103,11 @@ module _ (m : Lh5801) (inputs : Inputs) (on : m.bf ≡ true) (clear : m.is_timer
           halting_step m inputs (record { on = on; halted = halted; free = free; none = none })
           ∙ ap (λ (k : Lh5801). done (halted_of k inputs)) (reached_stays m clear)
 
-      pub step_halted : {p : Memory} → inputs.idle ≡ 0 → Does (mapped outcome_of (step_of m inputs)) p (Stopped Halted) p
+      pub step_halted : {p : Memory} → inputs.idle ≡ 0 → Does (mapped outcome_of (step_of m inputs)) p (Err Halted) p
       step_halted z = rw (step_halting, halted_stops m inputs z) (does_mapped outcome_of {r = stopped Halted} (does_done refl))
 
       pub step_waiting : {p : Memory} {r : Lh5801} → inputs.idle ≢ 0 → r ≡ timer_part_of (add_state_of m inputs.idle)
-          → Does (mapped outcome_of (step_of m inputs)) p (Completed r) p
+          → Does (mapped outcome_of (step_of m inputs)) p (Ok r) p
       step_waiting {r = r} z f =
           rw (step_halting, halted_waits m inputs z)
           (does_mapped outcome_of {r = did r inputs.idle waiting} (does_done (ap (λ (x : Lh5801). did x inputs.idle waiting) f)))
@@ -161,50 +162,54 @@ module _ (m : Lh5801) where
 -- where an instruction is due, by what its byte decodes to
 module _ (m : Lh5801) (inputs : Inputs) (ready : Ready m) where
   -- listed: whether it is settled, and whether timer reached is set then, tell whether an instruction is due again
-  pub instruction_listed : {o : Fetched} {l p q : Memory} {i : Instruction} {n : ℕ} {k now r : Lh5801} {b t : Bool}
+  pub instruction_listed : {o : Code Opcode} {l p q : Memory} {i : Instruction} {n : ℕ} {k now r : Lh5801} {b t : Bool}
       → Does (fetch_of m.p) l o p
-      → decoded_by o.fd o.byte ≡ Listed i n
+      → decoded_by o.value ≡ listed i n
       → Does (execute_of (with_p m o.p) inputs i) p k q
       → now ≡ add_state_of k n
       → r ≡ timer_part_of now
       → settled_of i ≡ b
       → r.is_timer_reached ≡ t
-      → Does (mapped executed_of (step_of m inputs)) l (cond (b && not t) (Again r) (CompletedThere r)) q
+      → Does (mapped executed_of (step_of m inputs)) l (Ok (cond (b && not t) (Again r) (Completed r))) q
   unfolding instruction_of decoded_step_of
   instruction_listed {o = o} {i = i} {n = n} {r = r} f e x y z s h =
       rw (step_due m inputs ready, ← (ap settled_by e ∙ s), ← h)
-      (does_mapped executed_of {r = did r (n + added_of m i) (instruction o.fd o.byte)}
-      (does_then _ f (rw e (does_then _ x (does_done (ap (λ (k : Lh5801). did k (n + added_of m i) (instruction o.fd o.byte)) (z ∙ ap timer_part_of y)))))))
+      (does_mapped executed_of {r = did r (n + added_of m i) (instruction o.value)}
+      (does_then _ f (rw e (does_then _ x (does_done (ap (λ (k : Lh5801). did k (n + added_of m i) (instruction o.value)) (z ∙ ap timer_part_of y)))))))
 
-  pub instruction_unlisted : {o : Fetched} {l p : Memory} {s : Stop}
+  pub instruction_unlisted : {o : Code Opcode} {l p : Memory} {s : Stop}
       → Does (fetch_of m.p) l o p
-      → decoded_by o.fd o.byte ≡ Unlisted
-      → s ≡ unlisted_by o.fd o.byte
-      → Does (mapped executed_of (step_of m inputs)) l (StoppedThere s) p
+      → decoded_by o.value ≡ None
+      → s ≡ Unlisted o.value
+      → Does (mapped executed_of (step_of m inputs)) l (Err s) p
   unfolding instruction_of decoded_step_of
   instruction_unlisted {s = s} f e t =
       rw (step_due m inputs ready) (does_mapped executed_of {r = stopped s} (does_then _ f (rw e (does_done (ap stopped t)))))
 
 -- the same without the word that an instruction is due again
-abbrev outcome_in : Executed → Outcome
-outcome_in (Again m) = Completed m
-outcome_in (CompletedThere m) = Completed m
-outcome_in (StoppedThere s) = Stopped s
+abbrev record_in : Executed → Lh5801
+record_in (Again m) = m
+record_in (Completed m) = m
+
+abbrev outcome_in : Result Executed Stop → Result Lh5801 Stop
+outcome_in (Ok e) = Ok (record_in e)
+outcome_in (Err s) = Err s
 
 executed_outcome : (e : StepEnd) → outcome_in (executed_of e) ≡ outcome_of e
 executed_outcome (did m states off) = refl
 executed_outcome (did m states held) = refl
 executed_outcome (did m states (interrupt vector)) = refl
 executed_outcome (did m states waiting) = refl
-executed_outcome (did m states (instruction fd byte)) = cond_both (λ x. outcome_in x ≡ Completed m) (settled_by (decoded_by fd byte) && not m.is_timer_reached) _ _ refl refl
+executed_outcome (did m states (instruction opcode)) =
+    cond_both (λ x. outcome_in (Ok x) ≡ Ok m) (settled_by (decoded_by opcode) && not m.is_timer_reached) _ _ refl refl
 executed_outcome (stopped s) = refl
 
-pub executed_step : (m : Lh5801) (inputs : Inputs) {p q : Memory} {r : Executed} → Does (mapped executed_of (step_of m inputs)) p r q
+pub executed_step : (m : Lh5801) (inputs : Inputs) {p q : Memory} {r : Result Executed Stop} → Does (mapped executed_of (step_of m inputs)) p r q
     → Does (mapped outcome_of (step_of m inputs)) p (outcome_in r) q
 executed_step m inputs d = does_through executed_of outcome_of outcome_in executed_outcome (step_of m inputs) d
 
 -- a step with BF clear
-pub step_off : (m : Lh5801) (inputs : Inputs) {p : Memory} {r : Lh5801} → m.bf ≡ false → r ≡ add_state_of m 8 → Does (mapped outcome_of (step_of m inputs)) p (Completed r) p
+pub step_off : (m : Lh5801) (inputs : Inputs) {p : Memory} {r : Lh5801} → m.bf ≡ false → r ≡ add_state_of m 8 → Does (mapped outcome_of (step_of m inputs)) p (Ok r) p
 unfolding step_of
 step_off m inputs {r = r} e f =
     rw (cond_false _ (powered_of (reached_of m) inputs) (done (did (add_state_of m 8) 8 off)) e)

@@ -1,9 +1,11 @@
 -- The table of shapes that the crate `bus` holds, against the opcode tables: one test, computed over all of it.
-use Rattle.std.proofs.Common.{◌≡◌, ℕ, ◌+◌, ◌%◌, ◌<◌, Bool, true, false, eqb, leb, List, [], ◌∷◌, get_or, ◌∙◌, arith, eqb→eq, le-leb}
+use Rattle.std.proofs.Common.{◌≡◌, ℕ, ◌+◌, ◌%◌, ◌<◌, Bool, cond, eqb, leb, List, [], ◌∷◌, get_or, ◌∙◌, arith, eqb→eq, le-leb}
 use borrow.Author.Tests.{lt-leb}
 use Rattle.arithmetic.proofs.Compute.{test_at}
 use Rattle.execution.specs.Opcodes.{decoded}
 use Rattle.execution.specs.OpcodesFd.{decoded_fd}
+use Rattle.execution.specs.declared.Opcode.{Opcode}
+use Rattle.execution.specs.declared.Opcode.TheVariants.{First, AfterFd}
 use Rattle.execution.specs.Code.Shapes.{shape_by}
 
 -- the first page's 256 opcodes, then those after FD; a row for each high digit
@@ -43,20 +45,26 @@ shapes =
     255 ∷ 255 ∷ 255 ∷ 255 ∷ 255 ∷ 255 ∷ 255 ∷ 255 ∷ 255 ∷ 255 ∷ 255 ∷ 255 ∷ 255 ∷ 255 ∷ 255 ∷ 255 ∷
     []
 
+-- the opcode of each place of the table
+opcode_of : ℕ → Opcode
+opcode_of k = cond (leb 256 k) (AfterFd (k % 256)) (First (k % 256))
+
 -- the shape at each place is that of the opcode there
 right : ℕ → Bool
-right k = eqb (get_or shapes k 0) (shape_by (leb 256 k) (k % 256))
+right k = eqb (get_or shapes k 0) (shape_by (opcode_of k))
 
-shapes_right : (k : ℕ) → k < 512 → get_or shapes k 0 ≡ shape_by (leb 256 k) (k % 256)
-unfolding right shapes shape_by decoded decoded_fd
-shapes_right k h = eqb→eq (get_or shapes k 0) (shape_by (leb 256 k) (k % 256)) (test_at right 512 tt k h)
+shapes_right : (k : ℕ) → k < 512 → get_or shapes k 0 ≡ shape_by (opcode_of k)
+unfolding right shapes shape_by decoded decoded_fd opcode_of
+shapes_right k h = eqb→eq (get_or shapes k 0) (shape_by (opcode_of k)) (test_at right 512 tt k h)
 
-pub shape_first : (byte : ℕ) → byte < 256 → get_or shapes byte 0 ≡ shape_by false byte
+pub shape_first : (byte : ℕ) → byte < 256 → get_or shapes byte 0 ≡ shape_by (First byte)
+unfolding opcode_of
 shape_first byte h =
     let e : byte % 256 ≡ byte = omega arith in
     shapes_right byte (omega arith) ∙ rw (lt-leb 256 byte h, e)
 
-pub shape_fd : (byte : ℕ) → byte < 256 → get_or shapes (256 + byte) 0 ≡ shape_by true byte
+pub shape_fd : (byte : ℕ) → byte < 256 → get_or shapes (256 + byte) 0 ≡ shape_by (AfterFd byte)
+unfolding opcode_of
 shape_fd byte h =
     let e : (256 + byte) % 256 ≡ byte = omega arith in
     shapes_right (256 + byte) (omega arith) ∙ rw (le-leb 256 (256 + byte) (omega arith), e)

@@ -12,9 +12,10 @@ use Rattle.pages.proofs.Always.{Always, always_bind, always_then}
 use Rattle.pages.proofs.Stack.{accept_times}
 use Rattle.pages.proofs.Timer.{timer_part_small, timer_part_status, states_status, states_tm}
 use Rattle.execution.specs.declared.instructions.Instruction.{Instruction}
-use Rattle.execution.specs.declared.instructions.Decoded.{Decoded}
-use Rattle.execution.specs.declared.instructions.Decoded.TheVariants.{Listed, Unlisted}
-use Rattle.execution.specs.declared.Fetched.{Fetched}
+use Rattle.execution.specs.declared.instructions.Listed.{Listed}
+use Rattle.std.specs.Prelude.{Option, Some, None}
+use Rattle.pages.specs.declared.Code.{Code}
+use Rattle.execution.specs.declared.Opcode.{Opcode}
 use Rattle.execution.specs.Instructions.{holds_of, execute_of}
 use Rattle.execution.specs.States.{Adds, nothing, branch, loop, vector_if, vector, adds_of, taken_from, added_of}
 use Rattle.execution.specs.Step.{Kind, StepEnd, did, decoded_by, fetch_of, decoded_step_of, instruction_of, interrupt_of, powered_of, step_of}
@@ -23,7 +24,7 @@ use Rattle.execution.proofs.Effects.{Effect, executed}
 
 taken_any_p : (m : Lh5801) (p : ℕ) (a : Adds) → taken_from (with_p m p) a ≡ taken_from m a
 taken_any_p m p nothing = refl
-taken_any_p m p (branch c forward) = ap (λ (t : ℕ). holds_of t c) (p_keeps m p).0
+taken_any_p m p (branch c direction) = ap (λ (t : ℕ). holds_of t c) (p_keeps m p).0
 taken_any_p m p loop = ap (λ (u : ℕ). not (eqb (u % 256) 0)) (p_keeps m p).1
 taken_any_p m p (vector_if c) = ap (λ (t : ℕ). holds_of t c) (p_keeps m p).0
 taken_any_p m p vector = refl
@@ -62,17 +63,17 @@ module _ (m : Lh5801) (inputs : Inputs) where
   unfolding interrupt_of
   counted_interrupt k s at = always_bind _ _ (accept_of k at) _ (accept_times k at) (λ r t. counted_timer r 0 (counted_same r (times_then s t)))
 
-  counted_decoded : (k : Lh5801) → SameTimes m k → (o : Fetched) (d : Decoded) → Always (CountedEnd m) (decoded_step_of k inputs o d)
+  counted_decoded : (k : Lh5801) → SameTimes m k → (o : Code Opcode) (d : Option Listed) → Always (CountedEnd m) (decoded_step_of k inputs o d)
   unfolding decoded_step_of
-  counted_decoded k s o (Listed i n) =
-      always_bind _ _ (execute_of (with_p k o.p) inputs i) _ (executed (with_p k o.p) inputs i)
-      (λ r f. counted_timer (add_state_of r n) _ (rw (added_any_p k o.p i) at
-      (counted_states r n _ (counted_effect (with_p k o.p) r _ _ (times_then s (times_status k _ (keeps_p k o.p))) f))))
-  counted_decoded k s o Unlisted = tt
+  counted_decoded k s o (Some l) =
+      always_bind _ _ (execute_of (with_p k o.p) inputs l.instruction) _ (executed (with_p k o.p) inputs l.instruction)
+      (λ r f. counted_timer (add_state_of r l.states) _ (rw (added_any_p k o.p l.instruction) at
+      (counted_states r l.states _ (counted_effect (with_p k o.p) r _ _ (times_then s (times_status k _ (keeps_p k o.p))) f))))
+  counted_decoded k s o None = tt
 
   counted_instruction : (k : Lh5801) → SameTimes m k → Always (CountedEnd m) (instruction_of k inputs)
   unfolding instruction_of
-  counted_instruction k s = always_then _ (fetch_of k.p) _ (λ o. counted_decoded k s o (decoded_by o.fd o.byte))
+  counted_instruction k s = always_then _ (fetch_of k.p) _ (λ o. counted_decoded k s o (decoded_by o.value))
 
   counted_powered : (k : Lh5801) → SameTimes m k → Always (CountedEnd m) (powered_of k inputs)
   counted_powered k s =

@@ -1,5 +1,5 @@
 -- The states of a completed step.
-use Rattle.std.proofs.Common.{◌≡◌, ℕ, ◌+◌, ◌≤◌, Bool, true, false, refl, arith}
+use Rattle.std.proofs.Common.{◌≡◌, ℕ, ◌+◌, ◌≤◌, false, refl, arith}
 use Rattle.arithmetic.specs.declared.record.Lh5801.{Lh5801}
 use Rattle.execution.specs.declared.Inputs.{Inputs}
 use Rattle.arithmetic.specs.Record.{with_p, with_ir1, with_ir2}
@@ -8,9 +8,12 @@ use Rattle.pages.specs.Stack.{accept_of}
 use Rattle.pages.specs.Prog.{exec}
 use Rattle.pages.proofs.Always.{Always, always_then}
 use Rattle.execution.specs.declared.instructions.Instruction.{Instruction}
-use Rattle.execution.specs.declared.instructions.Decoded.{Decoded}
-use Rattle.execution.specs.declared.instructions.Decoded.TheVariants.{Listed, Unlisted}
-use Rattle.execution.specs.declared.Fetched.{Fetched}
+use Rattle.execution.specs.declared.instructions.Listed.{Listed}
+use Rattle.std.specs.Prelude.{Option, Some, None}
+use Rattle.execution.specs.Opcodes.{listed}
+use Rattle.pages.specs.declared.Code.{Code}
+use Rattle.execution.specs.declared.Opcode.{Opcode}
+use Rattle.execution.specs.declared.Opcode.TheVariants.{First, AfterFd}
 use Rattle.execution.specs.Instructions.{execute_of}
 use Rattle.execution.specs.States.{adds_of, added_when_taken, taken_from, added_of}
 use Rattle.execution.specs.Step.{Kind, off, held, interrupt, waiting, instruction, fewest_states, most_states, StepEnd, did, decoded_by, fetch_of, decoded_step_of, instruction_of, interrupt_of, powered_of, step_of}
@@ -31,26 +34,26 @@ most_255 inputs h off = omega arith
 most_255 inputs h held = omega arith
 most_255 inputs h (interrupt vector) = omega arith
 most_255 inputs h waiting = h
-most_255 inputs h (instruction fd byte) = omega arith
+most_255 inputs h (instruction opcode) = omega arith
 
 fits_interrupt : (inputs : Inputs) (m : Lh5801) (vector : ℕ) → Always (Fits inputs) (interrupt_of m vector)
 unfolding interrupt_of
 fits_interrupt inputs m vector = always_then (Fits inputs) (accept_of m vector) _ (λ k. (omega arith, omega arith))
 
 -- each entry of the opcode table has 4 states at least, and 23 at most with what it adds where it is taken
-listed_by : (fd : Bool) (byte : ℕ) (i : Instruction) (n : ℕ) → decoded_by fd byte ≡ Listed i n → (4 ≤ n) × (n + added_when_taken i ≤ 23)
-listed_by true byte i n e = listed_states_fd byte e
-listed_by false byte i n e = listed_states byte e
+listed_by : (opcode : Opcode) (i : Instruction) (n : ℕ) → decoded_by opcode ≡ listed i n → (4 ≤ n) × (n + added_when_taken i ≤ 23)
+listed_by (AfterFd byte) i n e = listed_states_fd byte e
+listed_by (First byte) i n e = listed_states byte e
 
-fits_decoded : (m : Lh5801) (inputs : Inputs) (o : Fetched) (d : Decoded) → decoded_by o.fd o.byte ≡ d → Always (Fits inputs) (decoded_step_of m inputs o d)
+fits_decoded : (m : Lh5801) (inputs : Inputs) (o : Code Opcode) (d : Option Listed) → decoded_by o.value ≡ d → Always (Fits inputs) (decoded_step_of m inputs o d)
 unfolding decoded_step_of
-fits_decoded m inputs o (Listed i n) e = always_then (Fits inputs) (execute_of (with_p m o.p) inputs i) _
-    (λ k. (omega (arith, listed_by o.fd o.byte i n e), omega (arith, listed_by o.fd o.byte i n e, added_most m i)))
-fits_decoded m inputs o Unlisted e = tt
+fits_decoded m inputs o (Some l) e = always_then (Fits inputs) (execute_of (with_p m o.p) inputs l.instruction) _
+    (λ k. (omega (arith, listed_by o.value l.instruction l.states e), omega (arith, listed_by o.value l.instruction l.states e, added_most m l.instruction)))
+fits_decoded m inputs o None e = tt
 
 fits_instruction : (m : Lh5801) (inputs : Inputs) → Always (Fits inputs) (instruction_of m inputs)
 unfolding instruction_of
-fits_instruction m inputs = always_then (Fits inputs) (fetch_of m.p) _ (λ o. fits_decoded m inputs o (decoded_by o.fd o.byte) refl)
+fits_instruction m inputs = always_then (Fits inputs) (fetch_of m.p) _ (λ o. fits_decoded m inputs o (decoded_by o.value) refl)
 
 fits_powered : (m : Lh5801) (inputs : Inputs) → Always (Fits inputs) (powered_of m inputs)
 fits_powered m inputs =

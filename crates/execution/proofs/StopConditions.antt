@@ -11,15 +11,18 @@ use Rattle.pages.specs.Timer.{add_state_of, timer_part_of}
 use Rattle.pages.proofs.Always.{always_exec}
 use Rattle.pages.proofs.Exec.{done_answer}
 use Rattle.execution.specs.declared.instructions.Instruction.{Instruction}
-use Rattle.execution.specs.declared.instructions.Decoded.{Decoded}
-use Rattle.execution.specs.declared.instructions.Decoded.TheVariants.{Listed, Unlisted}
-use Rattle.execution.specs.declared.Fetched.{Fetched}
+use Rattle.execution.specs.declared.instructions.Listed.{Listed}
+use Rattle.std.specs.Prelude.{Option, Some, None}
+use Rattle.execution.specs.Opcodes.{listed}
+use Rattle.pages.specs.declared.Code.{Code}
+use Rattle.execution.specs.declared.Opcode.{Opcode}
+use Rattle.execution.specs.declared.Opcode.TheVariants.{First, AfterFd}
 use Rattle.execution.specs.declared.Stop.{Stop}
-use Rattle.execution.specs.declared.Stop.TheVariants.{UnlistedFirst, UnlistedFd, Halted}
+use Rattle.execution.specs.declared.Stop.TheVariants.{Unlisted, Halted}
 use Rattle.execution.specs.Opcodes.{decoded}
 use Rattle.execution.specs.OpcodesFd.{decoded_fd}
 use Rattle.execution.specs.Listed.{is_listed, listed_first}
-use Rattle.execution.specs.Step.{waiting, StepEnd, did, stopped, fetched, decoded_by, unlisted_by, decoded_step_of, reached_of, halted_of, step_of}
+use Rattle.execution.specs.Step.{waiting, StepEnd, did, stopped, fetched, decoded_by, decoded_step_of, reached_of, halted_of, step_of}
 use Rattle.execution.specs.Conditions.{accepted, Halting, HaltedStop, Waits, Due, first_byte, second_byte, FirstUnlisted, SecondUnlisted, Completes, NoStop}
 use Rattle.execution.specs.Code.Shapes.{opcode_at}
 use Rattle.execution.proofs.OpcodeRead.{instruction_answer}
@@ -28,42 +31,42 @@ use Rattle.execution.proofs.Choices.{none_left, none_right, cond_true, cond_fals
 use Rattle.execution.proofs.Tests.{reached_p, off_step, held_step, unheld, halting_step, accepted_step, halted_stops, halted_waits}
 
 -- what a decoded opcode comes to
-decoded_end : Lh5801 → Inputs → Pages → Fetched → StepEnd
-decoded_end m inputs pages o = (exec (decoded_step_of m inputs o (decoded_by o.fd o.byte)) pages).answer
+decoded_end : Lh5801 → Inputs → Pages → Code Opcode → StepEnd
+decoded_end m inputs pages o = (exec (decoded_step_of m inputs o (decoded_by o.value)) pages).answer
 
-end_unlisted : (m : Lh5801) (inputs : Inputs) (pages : Pages) (o : Fetched) → decoded_by o.fd o.byte ≡ Unlisted
-    → decoded_end m inputs pages o ≡ stopped (unlisted_by o.fd o.byte)
+end_unlisted : (m : Lh5801) (inputs : Inputs) (pages : Pages) (o : Code Opcode) → decoded_by o.value ≡ None
+    → decoded_end m inputs pages o ≡ stopped (Unlisted o.value)
 unfolding decoded_end decoded_step_of
 end_unlisted m inputs pages o e = ap (λ d. (exec (decoded_step_of m inputs o d) pages).answer) e ∙ done_answer _ pages
 
-end_listed : (m : Lh5801) (inputs : Inputs) (pages : Pages) (o : Fetched) (i : Instruction) (n : ℕ) → decoded_by o.fd o.byte ≡ Listed i n
+end_listed : (m : Lh5801) (inputs : Inputs) (pages : Pages) (o : Code Opcode) (i : Instruction) (n : ℕ) → decoded_by o.value ≡ listed i n
     → IsActive (decoded_end m inputs pages o)
 unfolding decoded_end
 end_listed m inputs pages o i n e =
     subst (λ d. IsActive (exec (decoded_step_of m inputs o d) pages).answer) (sym e)
-    (always_exec IsActive (decoded_step_of m inputs o (Listed i n)) (active_listed m inputs o i n) pages)
+    (always_exec IsActive (decoded_step_of m inputs o (listed i n)) (active_listed m inputs o i n) pages)
 
 -- the opcode, by whether the first byte is FD
-opcode_first : (pages : Pages) (p b : ℕ) → at pages p ≡ b → ¬ (b ≡ 0xFD) → opcode_at pages p ≡ fetched false b (up16 p)
+opcode_first : (pages : Pages) (p b : ℕ) → at pages p ≡ b → ¬ (b ≡ 0xFD) → opcode_at pages p ≡ fetched (First b) (up16 p)
 opcode_first pages p b e h =
-    cond_false (eqb (at pages p) 0xFD) _ _ (ne_eqb (at pages p) 0xFD (λ q. h (sym e ∙ q))) ∙ ap (λ n. fetched false n (up16 p)) e
+    cond_false (eqb (at pages p) 0xFD) _ _ (ne_eqb (at pages p) 0xFD (λ q. h (sym e ∙ q))) ∙ ap (λ n. fetched (First n) (up16 p)) e
 
-opcode_second : (pages : Pages) (p b : ℕ) → at pages p ≡ 0xFD → at pages (up16 p) ≡ b → opcode_at pages p ≡ fetched true b (up16 (up16 p))
+opcode_second : (pages : Pages) (p b : ℕ) → at pages p ≡ 0xFD → at pages (up16 p) ≡ b → opcode_at pages p ≡ fetched (AfterFd b) (up16 (up16 p))
 opcode_second pages p b h e =
-    cond_true (eqb (at pages p) 0xFD) _ _ (eq-eqb (at pages p) 0xFD h) ∙ ap (λ n. fetched true n (up16 (up16 p))) e
+    cond_true (eqb (at pages p) 0xFD) _ _ (eq-eqb (at pages p) 0xFD h) ∙ ap (λ n. fetched (AfterFd n) (up16 (up16 p))) e
 
 -- what "unlisted" says: the table has no entry, and a first byte is not FD
-no_entry : (d : Decoded) → is_listed d ≡ false → d ≡ Unlisted
-no_entry (Listed i n) e = absurd (true≢false e)
-no_entry Unlisted e = refl
+no_entry : (d : Option Listed) → is_listed d ≡ false → d ≡ None
+no_entry (Some l) e = absurd (true≢false e)
+no_entry None e = refl
 
-first_no_entry : (b : ℕ) → listed_first b ≡ false → decoded b ≡ Unlisted
+first_no_entry : (b : ℕ) → listed_first b ≡ false → decoded b ≡ None
 first_no_entry b e = no_entry (decoded b) (none_right (eqb b 0xFD) _ e)
 
 first_not_fd : (b : ℕ) → listed_first b ≡ false → ¬ (b ≡ 0xFD)
 first_not_fd b e = eqb-false b 0xFD (none_left (eqb b 0xFD) _ e)
 
-first_unlisted : (b : ℕ) → ¬ (b ≡ 0xFD) → decoded b ≡ Unlisted → listed_first b ≡ false
+first_unlisted : (b : ℕ) → ¬ (b ≡ 0xFD) → decoded b ≡ None → listed_first b ≡ false
 first_unlisted b h e = rw (ne_eqb b 0xFD h, e)
 
 module _ (m : Lh5801) (inputs : Inputs) (pages : Pages) where
@@ -81,22 +84,22 @@ module _ (m : Lh5801) (inputs : Inputs) (pages : Pages) where
   waiting_answer : Waits inputs m → answer ≡ did (timer_part_of (add_state_of (reached_of m) inputs.idle)) inputs.idle waiting
   waiting_answer w = halting_answer w.halting ∙ halted_waits (reached_of m) inputs w.idle
 
-  due_answer : Due m → (o : Fetched) → opcode_at pages m.p ≡ o → answer ≡ decoded_end (reached_of m) inputs pages o
+  due_answer : Due m → (o : Code Opcode) → opcode_at pages m.p ≡ o → answer ≡ decoded_end (reached_of m) inputs pages o
   unfolding answer decoded_end
   due_answer d o e =
       ap (λ p. (exec p pages).answer) (unheld m inputs d.on d.free d.none ∙ cond_false m.is_halted _ _ d.running)
       ∙ instruction_answer (reached_of m) inputs pages
       ∙ ap (decoded_end (reached_of m) inputs pages) (ap (opcode_at pages) (reached_p m) ∙ e)
 
-  first_answer : (b : ℕ) → FirstUnlisted m pages b → answer ≡ stopped (UnlistedFirst b)
+  first_answer : (b : ℕ) → FirstUnlisted m pages b → answer ≡ stopped (Unlisted (First b))
   first_answer b f =
-      let o : Fetched = fetched false b (up16 m.p) in
+      let o : Code Opcode = fetched (First b) (up16 m.p) in
       due_answer f.due o (opcode_first pages m.p b f.first (first_not_fd b f.unlisted))
       ∙ end_unlisted (reached_of m) inputs pages o (first_no_entry b f.unlisted)
 
-  second_answer : (b : ℕ) → SecondUnlisted m pages b → answer ≡ stopped (UnlistedFd b)
+  second_answer : (b : ℕ) → SecondUnlisted m pages b → answer ≡ stopped (Unlisted (AfterFd b))
   second_answer b f =
-      let o : Fetched = fetched true b (up16 (up16 m.p)) in
+      let o : Code Opcode = fetched (AfterFd b) (up16 (up16 m.p)) in
       due_answer f.due o (opcode_second pages m.p b f.first f.second)
       ∙ end_unlisted (reached_of m) inputs pages o (no_entry (decoded_fd b) f.unlisted)
 
@@ -108,17 +111,17 @@ module _ (m : Lh5801) (inputs : Inputs) (pages : Pages) where
     is_second : (b : ℕ) → SecondUnlisted m pages b → Case
     is_completed : IsActive answer → Case
 
-  case_first : Due m → (b : ℕ) → first_byte m pages ≡ b → ¬ (b ≡ 0xFD) → (d : Decoded) → decoded b ≡ d → Case
-  case_first due b f h (Listed i n) e =
-      let o : Fetched = fetched false b (up16 m.p) in
-      is_completed (subst IsActive (sym (due_answer due o (opcode_first pages m.p b f h))) (end_listed (reached_of m) inputs pages o i n e))
-  case_first due b f h Unlisted e = is_first b (record { due = due; first = f; unlisted = first_unlisted b h e })
+  case_first : Due m → (b : ℕ) → first_byte m pages ≡ b → ¬ (b ≡ 0xFD) → (d : Option Listed) → decoded b ≡ d → Case
+  case_first due b f h (Some l) e =
+      let o : Code Opcode = fetched (First b) (up16 m.p) in
+      is_completed (subst IsActive (sym (due_answer due o (opcode_first pages m.p b f h))) (end_listed (reached_of m) inputs pages o l.instruction l.states e))
+  case_first due b f h None e = is_first b (record { due = due; first = f; unlisted = first_unlisted b h e })
 
-  case_second : Due m → first_byte m pages ≡ 0xFD → (b : ℕ) → second_byte m pages ≡ b → (d : Decoded) → decoded_fd b ≡ d → Case
-  case_second due h b f (Listed i n) e =
-      let o : Fetched = fetched true b (up16 (up16 m.p)) in
-      is_completed (subst IsActive (sym (due_answer due o (opcode_second pages m.p b h f))) (end_listed (reached_of m) inputs pages o i n e))
-  case_second due h b f Unlisted e = is_second b (record { due = due; first = h; second = f; unlisted = ap is_listed e })
+  case_second : Due m → first_byte m pages ≡ 0xFD → (b : ℕ) → second_byte m pages ≡ b → (d : Option Listed) → decoded_fd b ≡ d → Case
+  case_second due h b f (Some l) e =
+      let o : Code Opcode = fetched (AfterFd b) (up16 (up16 m.p)) in
+      is_completed (subst IsActive (sym (due_answer due o (opcode_second pages m.p b h f))) (end_listed (reached_of m) inputs pages o l.instruction l.states e))
+  case_second due h b f None e = is_second b (record { due = due; first = h; second = f; unlisted = ap is_listed e })
 
   case_due : Due m → Case
   case_due due = go (eqb (first_byte m pages) 0xFD) refl
@@ -168,28 +171,28 @@ module _ (m : Lh5801) (inputs : Inputs) (pages : Pages) where
       go (is_completed d) e = absurd (never_both Halted (completed_did d) e)
 
   -- 5, with the byte
-  pub stops_5 : (b : ℕ) → ((exec (step_of m inputs) pages).answer ≡ stopped (UnlistedFirst b)) ↔ FirstUnlisted m pages b
+  pub stops_5 : (b : ℕ) → ((exec (step_of m inputs) pages).answer ≡ stopped (Unlisted (First b))) ↔ FirstUnlisted m pages b
   unfolding answer
   stops_5 b = (λ e. go case_of e, first_answer b)
     where
-      go : Case → answer ≡ stopped (UnlistedFirst b) → FirstUnlisted m pages b
+      go : Case → answer ≡ stopped (Unlisted (First b)) → FirstUnlisted m pages b
       go (is_halted_lem h) e = absurd (let z : ◌≡◌ {A = ℕ} 0 1 = cc (halted_answer h) in omega arith)
-      go (is_waiting w) e = absurd (never_both (UnlistedFirst b) (waiting_did w) e)
+      go (is_waiting w) e = absurd (never_both (Unlisted (First b)) (waiting_did w) e)
       go (is_first c f) e = let z : c ≡ b = cc (first_answer c f) in rw z at f
       go (is_second c f) e = absurd (let z : ◌≡◌ {A = ℕ} 0 1 = cc (second_answer c f) in omega arith)
-      go (is_completed d) e = absurd (never_both (UnlistedFirst b) (completed_did d) e)
+      go (is_completed d) e = absurd (never_both (Unlisted (First b)) (completed_did d) e)
 
   -- 6, with the byte
-  pub stops_6 : (b : ℕ) → ((exec (step_of m inputs) pages).answer ≡ stopped (UnlistedFd b)) ↔ SecondUnlisted m pages b
+  pub stops_6 : (b : ℕ) → ((exec (step_of m inputs) pages).answer ≡ stopped (Unlisted (AfterFd b))) ↔ SecondUnlisted m pages b
   unfolding answer
   stops_6 b = (λ e. go case_of e, second_answer b)
     where
-      go : Case → answer ≡ stopped (UnlistedFd b) → SecondUnlisted m pages b
+      go : Case → answer ≡ stopped (Unlisted (AfterFd b)) → SecondUnlisted m pages b
       go (is_halted_lem h) e = absurd (let z : ◌≡◌ {A = ℕ} 0 1 = cc (halted_answer h) in omega arith)
-      go (is_waiting w) e = absurd (never_both (UnlistedFd b) (waiting_did w) e)
+      go (is_waiting w) e = absurd (never_both (Unlisted (AfterFd b)) (waiting_did w) e)
       go (is_first c f) e = absurd (let z : ◌≡◌ {A = ℕ} 0 1 = cc (first_answer c f) in omega arith)
       go (is_second c f) e = let z : c ≡ b = cc (second_answer c f) in rw z at f
-      go (is_completed d) e = absurd (never_both (UnlistedFd b) (completed_did d) e)
+      go (is_completed d) e = absurd (never_both (Unlisted (AfterFd b)) (completed_did d) e)
 
   completes_did : (e : StepEnd) → IsDid e → Completes e
   completes_did (did k n kind) h = record { after = k; states = n; kind = kind; is = refl }
@@ -204,8 +207,8 @@ module _ (m : Lh5801) (inputs : Inputs) (pages : Pages) where
   completes = (
     λ c. record {
       seven = λ h. never_both Halted (did_completes c) (halted_answer h);
-      five = λ b f. never_both (UnlistedFirst b) (did_completes c) (first_answer b f);
-      six = λ b f. never_both (UnlistedFd b) (did_completes c) (second_answer b f);
+      five = λ b f. never_both (Unlisted (First b)) (did_completes c) (first_answer b f);
+      six = λ b f. never_both (Unlisted (AfterFd b)) (did_completes c) (second_answer b f);
     },
     go case_of,
   )
@@ -225,6 +228,6 @@ module _ (m : Lh5801) (inputs : Inputs) (pages : Pages) where
       go : Case → Waits inputs m
       go (is_halted_lem h) = absurd (never_both Halted (subst IsDid (sym e) tt) (halted_answer h))
       go (is_waiting w) = w
-      go (is_first b f) = absurd (never_both (UnlistedFirst b) (subst IsDid (sym e) tt) (first_answer b f))
-      go (is_second b f) = absurd (never_both (UnlistedFd b) (subst IsDid (sym e) tt) (second_answer b f))
+      go (is_first b f) = absurd (never_both (Unlisted (First b)) (subst IsDid (sym e) tt) (first_answer b f))
+      go (is_second b f) = absurd (never_both (Unlisted (AfterFd b)) (subst IsDid (sym e) tt) (second_answer b f))
       go (is_completed d) = absurd (subst IsActive e d)

@@ -10,9 +10,11 @@ use Rattle.pages.specs.Written.{writes}
 use Rattle.pages.proofs.Always.{Always, always_then, always_map}
 use Rattle.pages.proofs.Clean.{ReadsOnly, reads_then, reads_readop, Clean, clean_exec, clean_always, clean_after}
 use Rattle.execution.specs.declared.instructions.Instruction.{Instruction}
-use Rattle.execution.specs.declared.instructions.Decoded.{Decoded}
-use Rattle.execution.specs.declared.instructions.Decoded.TheVariants.{Listed, Unlisted}
-use Rattle.execution.specs.declared.Fetched.{Fetched}
+use Rattle.execution.specs.declared.instructions.Listed.{Listed}
+use Rattle.std.specs.Prelude.{Option, Some, None}
+use Rattle.execution.specs.Opcodes.{listed}
+use Rattle.pages.specs.declared.Code.{Code}
+use Rattle.execution.specs.declared.Opcode.{Opcode}
 use Rattle.execution.specs.declared.Stop.{Stop}
 use Rattle.execution.specs.Instructions.{execute_of}
 use Rattle.execution.specs.Step.{Kind, off, held, interrupt, waiting, instruction, StepEnd, did, stopped, decoded_by, fetch_of, decoded_step_of, instruction_of, interrupt_of, powered_of, step_of}
@@ -30,7 +32,7 @@ NotWaiting off = Unit {0}
 NotWaiting held = Unit {0}
 NotWaiting (interrupt vector) = Unit {0}
 NotWaiting waiting = ⊥
-NotWaiting (instruction fd byte) = Unit {0}
+NotWaiting (instruction opcode) = Unit {0}
 
 abbrev pub IsActive : StepEnd → Type 0
 IsActive (did k n kind) = NotWaiting kind
@@ -42,10 +44,10 @@ active_did (stopped s) h = h
 
 reads_fetch : (p : ℕ) → ReadsOnly (fetch_of p)
 unfolding fetch_of
-reads_fetch p = reads_then _ _ (reads_readop p) (λ b. cond_both (ReadsOnly {A = Fetched}) (eqb b.value 0xFD) _ _ (reads_then _ _ (reads_readop _) (λ c. tt)) tt)
+reads_fetch p = reads_then _ _ (reads_readop p) (λ b. cond_both (ReadsOnly {A = Code Opcode}) (eqb b.value 0xFD) _ _ (reads_then _ _ (reads_readop _) (λ c. tt)) tt)
 
 -- a listed byte and an accepted interrupt end in a completed step
-pub active_listed : (m : Lh5801) (inputs : Inputs) (o : Fetched) (i : Instruction) (n : ℕ) → Always IsActive (decoded_step_of m inputs o (Listed i n))
+pub active_listed : (m : Lh5801) (inputs : Inputs) (o : Code Opcode) (i : Instruction) (n : ℕ) → Always IsActive (decoded_step_of m inputs o (listed i n))
 unfolding decoded_step_of
 active_listed m inputs o i n = always_then IsActive (execute_of (with_p m o.p) inputs i) _ (λ k. tt)
 
@@ -56,14 +58,14 @@ active_interrupt m vector = always_then IsActive (accept_of m vector) _ (λ k. t
 clean_active : (p : Prog StepEnd) → Always IsActive p → Clean IsDid p
 clean_active p h = clean_always IsDid p (always_map IsActive IsDid p active_did h)
 
-clean_decoded : (m : Lh5801) (inputs : Inputs) (o : Fetched) (d : Decoded) → Clean IsDid (decoded_step_of m inputs o d)
+clean_decoded : (m : Lh5801) (inputs : Inputs) (o : Code Opcode) (d : Option Listed) → Clean IsDid (decoded_step_of m inputs o d)
 unfolding decoded_step_of
-clean_decoded m inputs o (Listed i n) = clean_active (decoded_step_of m inputs o (Listed i n)) (active_listed m inputs o i n)
-clean_decoded m inputs o Unlisted = tt
+clean_decoded m inputs o (Some l) = clean_active (decoded_step_of m inputs o (Some l)) (active_listed m inputs o l.instruction l.states)
+clean_decoded m inputs o None = tt
 
 clean_instruction : (m : Lh5801) (inputs : Inputs) → Clean IsDid (instruction_of m inputs)
 unfolding instruction_of
-clean_instruction m inputs = clean_after IsDid (fetch_of m.p) _ (reads_fetch m.p) (λ o. clean_decoded m inputs o (decoded_by o.fd o.byte))
+clean_instruction m inputs = clean_after IsDid (fetch_of m.p) _ (reads_fetch m.p) (λ o. clean_decoded m inputs o (decoded_by o.value))
 
 clean_powered : (m : Lh5801) (inputs : Inputs) → Clean IsDid (powered_of m inputs)
 clean_powered m inputs =

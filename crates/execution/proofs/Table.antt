@@ -3,32 +3,32 @@ use Rattle.std.proofs.Common.{◌≡◌, ℕ, zero, suc, ◌+◌, ◌-◌, ◌*�
 use lib.ListN.{get_or-eq_default}
 use Rattle.arithmetic.proofs.Rows.{Rest, clear, default}
 use Rattle.arithmetic.proofs.Compute.{both, both_left, both_right}
-use Rattle.execution.specs.declared.instructions.Decoded.{Decoded}
-use Rattle.execution.specs.declared.instructions.Decoded.TheVariants.{Listed, Unlisted}
+use Rattle.execution.specs.declared.instructions.Listed.{Listed}
+use Rattle.std.specs.Prelude.{Option, Some, None}
 use Rattle.execution.specs.Code.Chain.{chained, or_else, column}
 use Rattle.execution.specs.OpcodesFd.{empty_row}
 
 -- no row has more than 16 entries
-abbrev pub short : List (List Decoded) → Bool
+abbrev pub short : List (List (Option Listed)) → Bool
 short [] = true
 short (row ∷ rest) = both (leb (length row) 16) (short rest)
 
-nothing_else : (d : Decoded) → or_else d Unlisted ≡ d
-nothing_else (Listed i n) = refl
-nothing_else Unlisted = refl
+nothing_else : (d : Option Listed) → or_else d None ≡ d
+nothing_else (Some l) = refl
+nothing_else None = refl
 
-module _ (row : List Decoded) (rest : List (List Decoded)) (s : T (short (row ∷ rest))) where
+module _ (row : List (Option Listed)) (rest : List (List (Option Listed))) (s : T (short (row ∷ rest))) where
   -- past its columns a row lists nothing
-  past : (k : ℕ) (e : Decoded) → 16 ≤ k → or_else (get_or row k Unlisted) e ≡ e
+  past : (k : ℕ) (e : Option Listed) → 16 ≤ k → or_else (get_or row k None) e ≡ e
   past k e h =
       let n : length row ≤ 16 = leb→le (length row) 16 (both_left (leb (length row) 16) (short rest) s) in
-      ap (λ (d : Decoded). or_else d e) (get_or-eq_default row Unlisted (omega arith))
+      ap (λ (d : Option Listed). or_else d e) (get_or-eq_default row None (omega arith))
 
   later : T (short rest)
   later = both_right (leb (length row) 16) (short rest) s
 
 -- a byte before the first row is in none
-before : (rest : List (List Decoded)) (i byte : ℕ) → T (short rest) → i + length rest ≤ 16 → byte < 16 * i → chained rest i byte ≡ Unlisted
+before : (rest : List (List (Option Listed))) (i byte : ℕ) → T (short rest) → i + length rest ≤ 16 → byte < 16 * i → chained rest i byte ≡ None
 unfolding chained
 before [] i byte s f h = refl
 before (row ∷ rest) i byte s f h =
@@ -36,47 +36,47 @@ before (row ∷ rest) i byte s f h =
     ∙ before rest (suc i) byte (later row rest s) (omega arith) (omega arith)
 
 -- a byte of row i + j, counted from row i
-found : (rest : List (List Decoded)) (i j k : ℕ) → T (short rest) → i + length rest ≤ 16 → i + j < 16 → k < 16
-    → chained rest i (16 * (i + j) + k) ≡ get_or (get_or rest j []) k Unlisted
+found : (rest : List (List (Option Listed))) (i j k : ℕ) → T (short rest) → i + length rest ≤ 16 → i + j < 16 → k < 16
+    → chained rest i (16 * (i + j) + k) ≡ get_or (get_or rest j []) k None
 unfolding chained
 found [] i j k s f g h = refl
 found (row ∷ rest) i zero k s f g h =
     let e : column i (16 * (i + 0) + k) ≡ k = omega arith in
-    ap (λ (d : Decoded). or_else (get_or row (column i (16 * (i + 0) + k)) Unlisted) d) (before rest (suc i) (16 * (i + 0) + k) (later row rest s) (omega arith) (omega arith))
-    ∙ nothing_else (get_or row (column i (16 * (i + 0) + k)) Unlisted)
-    ∙ ap (λ (c : ℕ). get_or row c Unlisted) e
+    ap (λ (d : Option Listed). or_else (get_or row (column i (16 * (i + 0) + k)) None) d) (before rest (suc i) (16 * (i + 0) + k) (later row rest s) (omega arith) (omega arith))
+    ∙ nothing_else (get_or row (column i (16 * (i + 0) + k)) None)
+    ∙ ap (λ (c : ℕ). get_or row c None) e
 found (row ∷ rest) i (suc j) k s f g h =
     let e : 16 * (i + suc j) + k ≡ 16 * (suc i + j) + k = omega arith in
     past row rest s (column i (16 * (i + suc j) + k)) (chained rest (suc i) (16 * (i + suc j) + k)) (omega arith)
     ∙ ap (λ (b : ℕ). chained rest (suc i) b) e
     ∙ found rest (suc i) j k (later row rest s) (omega arith) (omega arith) h
 
-pub table : (rows : List (List Decoded)) → T (short rows) → length rows ≤ 16 → (byte : ℕ) → byte < 256
-    → chained rows 0 byte ≡ get_or (get_or rows (byte / 16) []) (byte % 16) Unlisted
+pub table : (rows : List (List (Option Listed))) → T (short rows) → length rows ≤ 16 → (byte : ℕ) → byte < 256
+    → chained rows 0 byte ≡ get_or (get_or rows (byte / 16) []) (byte % 16) None
 table rows s f byte h =
     let e : byte ≡ 16 * (0 + byte / 16) + byte % 16 = omega arith in
     ap (λ (b : ℕ). chained rows 0 b) e ∙ found rows 0 (byte / 16) (byte % 16) s (omega arith) (omega arith) (omega arith)
 
 -- rows that begin with row i
-from_row : (rows : List (List Decoded)) (i : ℕ) → T (short rows) → i + length rows ≤ 16 → (byte : ℕ) → 16 * i ≤ byte → byte < 256
-    → chained rows i byte ≡ get_or (get_or rows (byte / 16 - i) []) (byte % 16) Unlisted
+from_row : (rows : List (List (Option Listed))) (i : ℕ) → T (short rows) → i + length rows ≤ 16 → (byte : ℕ) → 16 * i ≤ byte → byte < 256
+    → chained rows i byte ≡ get_or (get_or rows (byte / 16 - i) []) (byte % 16) None
 from_row rows i s f byte l h =
     let e : byte ≡ 16 * (i + (byte / 16 - i)) + byte % 16 = omega arith in
     ap (λ (b : ℕ). chained rows i b) e ∙ found rows i (byte / 16 - i) (byte % 16) s f (omega arith) (omega arith)
 
 -- the first n rows, and those after them
-pub first_rows : (rows : List (List Decoded)) (n : ℕ) → T (short (take n rows)) → length (take n rows) ≤ 16 → (byte : ℕ) → byte < 16 * n → byte < 256
-    → chained (take n rows) 0 byte ≡ get_or (get_or rows (byte / 16) []) (byte % 16) Unlisted
+pub first_rows : (rows : List (List (Option Listed))) (n : ℕ) → T (short (take n rows)) → length (take n rows) ≤ 16 → (byte : ℕ) → byte < 16 * n → byte < 256
+    → chained (take n rows) 0 byte ≡ get_or (get_or rows (byte / 16) []) (byte % 16) None
 first_rows rows n s f byte l h =
     table (take n rows) s f byte h
-    ∙ ap (λ (row : List Decoded). get_or row (byte % 16) Unlisted) (get_or-take n rows (byte / 16) [] (omega arith))
+    ∙ ap (λ (row : List (Option Listed)). get_or row (byte % 16) None) (get_or-take n rows (byte / 16) [] (omega arith))
 
-pub rows_after : (rows : List (List Decoded)) (n : ℕ) → T (short (drop n rows)) → n + length (drop n rows) ≤ 16 → (byte : ℕ) → 16 * n ≤ byte → byte < 256
-    → chained (drop n rows) n byte ≡ get_or (get_or rows (byte / 16) []) (byte % 16) Unlisted
+pub rows_after : (rows : List (List (Option Listed))) (n : ℕ) → T (short (drop n rows)) → n + length (drop n rows) ≤ 16 → (byte : ℕ) → 16 * n ≤ byte → byte < 256
+    → chained (drop n rows) n byte ≡ get_or (get_or rows (byte / 16) []) (byte % 16) None
 rows_after rows n s f byte l h =
     let e : n + (byte / 16 - n) ≡ byte / 16 = omega arith in
     from_row (drop n rows) n s f byte l h
-    ∙ ap (λ (row : List Decoded). get_or row (byte % 16) Unlisted) (get_or-drop n rows (byte / 16 - n) [] ∙ ap (λ (j : ℕ). get_or rows j []) e)
+    ∙ ap (λ (row : List (Option Listed)). get_or row (byte % 16) None) (get_or-drop n rows (byte / 16 - n) [] ∙ ap (λ (j : ℕ). get_or rows j []) e)
 
 -- the keys of row i, by its columns
 abbrev pub keys : ℕ → List ℕ → List ℕ
@@ -95,22 +95,22 @@ counted i byte hi hb (k ∷ ks) s r =
     (counted i byte hi hb ks (both_right (ltb k 16) (columns ks) s) r.0, λ e. r.1 (omega (arith, e)))
 
 -- a row's last arm: what the row does not list is what the rows after it have
-pub passed_over : (row : List Decoded) (rest : List (List Decoded)) (i : ℕ) (ks : List ℕ) (byte : ℕ) {e : Decoded}
-    → i < 16 → byte < 256 → T (columns ks) → clear Unlisted row ks ≡ replicate 16 Unlisted → Rest byte (keys i ks)
+pub passed_over : (row : List (Option Listed)) (rest : List (List (Option Listed))) (i : ℕ) (ks : List ℕ) (byte : ℕ) {e : Option Listed}
+    → i < 16 → byte < 256 → T (columns ks) → clear None row ks ≡ replicate 16 None → Rest byte (keys i ks)
     → e ≡ chained rest (suc i) byte → e ≡ chained (row ∷ rest) i byte
 unfolding chained
 passed_over row rest i ks byte hi hb s f r e =
-    e ∙ ap (λ (x : Decoded). or_else x (chained rest (suc i) byte)) (default Unlisted row ks 16 (column i byte) f (counted i byte hi hb ks s r))
+    e ∙ ap (λ (x : Option Listed). or_else x (chained rest (suc i) byte)) (default None row ks 16 (column i byte) f (counted i byte hi hb ks s r))
 
 -- after the last row
-pub nothing : (i byte : ℕ) → Unlisted ≡ chained [] i byte
+pub nothing : (i byte : ℕ) → None ≡ chained [] i byte
 unfolding chained
 nothing i byte = refl
 
 -- a row that lists nothing may be left out: rows 7 and F after FD
-blank : (k : ℕ) → get_or empty_row k Unlisted ≡ Unlisted
-blank k = sym (default Unlisted empty_row [] 16 k refl tt)
+blank : (k : ℕ) → get_or empty_row k None ≡ None
+blank k = sym (default None empty_row [] 16 k refl tt)
 
-pub skip : (rest : List (List Decoded)) (i byte : ℕ) → chained rest (suc i) byte ≡ chained (empty_row ∷ rest) i byte
+pub skip : (rest : List (List (Option Listed))) (i byte : ℕ) → chained rest (suc i) byte ≡ chained (empty_row ∷ rest) i byte
 unfolding chained
-skip rest i byte = sym (ap (λ (d : Decoded). or_else d (chained rest (suc i) byte)) (blank (column i byte)))
+skip rest i byte = sym (ap (λ (d : Option Listed). or_else d (chained rest (suc i) byte)) (blank (column i byte)))

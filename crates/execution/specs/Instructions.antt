@@ -30,6 +30,8 @@ use Rattle.execution.specs.declared.instructions.Accumulator.{Accumulator}
 use Rattle.execution.specs.declared.instructions.Accumulator.TheVariants.{IncA, DecA, Ror, Shr, Shl, Rol, Aex, Tta, Att, Ita, Am0, Am1}
 use Rattle.execution.specs.declared.instructions.Signal.{Signal}
 use Rattle.execution.specs.declared.instructions.Signal.TheVariants.{Pu, Pv, Disp, CarryFlag, InterruptEnable}
+use Rattle.execution.specs.declared.instructions.Direction.{Direction}
+use Rattle.execution.specs.declared.instructions.Direction.TheVariants.{Forward, Backward}
 use Rattle.execution.specs.declared.instructions.Instruction.{Instruction}
 use Rattle.execution.specs.declared.instructions.Instruction.TheVariants.{Alu, Sta, Memory, Bii, Drr, Drl, Load, Compare, Inc, Dec, IncWord, DecWord, Sin, Sde, Lin, Lde, Branch, Lop, VectorIf, Vector, Jmp, Sjp, Rtn, Rti, LoadS, Tin, Cin, OnA, Sets, PopWord, PushWord, PopA, PushA, ToX, FromX, DropWord, Adr, Off, Hlt, Cdv, Nop}
 use Rattle.execution.specs.Places.{word_in, with_word, half_in, with_half, address_of, locate_of, operand_of}
@@ -67,7 +69,7 @@ sta_of m (Fixed page) = store_of m (Fixed page)
 sta_of m InCode = store_of m InCode
 
 -- a memory byte with an immediate, and T: ANI, ORI and ADI
-abbrev pub changed_of : ℕ → Change → ℕ → ℕ → Sum
+abbrev pub changed_of : ℕ → Change → ℕ → ℕ → Sum ℕ
 changed_of t Ani b v = record { value = bit_and b v; t = check_z t (bit_and b v) }
 changed_of t Ori b v = record { value = bit_or b v; t = check_z t (bit_or b v) }
 changed_of t Adi b v = add_of t b v false
@@ -171,22 +173,22 @@ holds_of t Overflow = has_flag t VF
 holds_of t Always = true
 
 -- "A taken branch adds 2 forward, 3 backward"; p is the address after the operand
-abbrev pub branched_of : Lh5801 → ℕ → ℕ → Bool → Lh5801
-branched_of m p offset true = add_state_of (with_p m ((p + offset) % 0x10000)) 2
-branched_of m p offset false = add_state_of (with_p m ((p + (0x10000 - offset)) % 0x10000)) 3
+abbrev pub branched_of : Lh5801 → ℕ → ℕ → Direction → Lh5801
+branched_of m p offset Forward = add_state_of (with_p m ((p + offset) % 0x10000)) 2
+branched_of m p offset Backward = add_state_of (with_p m ((p + (0x10000 - offset)) % 0x10000)) 3
 
 -- the operand is read even where the branch is not taken
-unfoldable pub branch_of : Lh5801 → Condition → Bool → Prog Lh5801
-branch_of m c forward = do
+unfoldable pub branch_of : Lh5801 → Condition → Direction → Prog Lh5801
+branch_of m c direction = do
   f ← readop_of m.p
-  done (cond (holds_of m.t c) (branched_of m f.p f.value forward) (with_p m f.p))
+  done (cond (holds_of m.t c) (branched_of m f.p f.value direction) (with_p m f.p))
 
 -- LOP: the operand is read, UL is tested and counted down (`arithmetic`'s `looped_of`), and where it was not 0 the branch goes backward
 unfoldable pub lop_of : Lh5801 → Prog Lh5801
 lop_of m = do
   f ← readop_of m.p
   done (cond (looped_of m.u).again
-      (branched_of (with_u m (looped_of m.u).u) f.p f.value false)
+      (branched_of (with_u m (looped_of m.u).u) f.p f.value Backward)
       (with_p (with_u m (looped_of m.u).u) f.p))
 
 -- a vector taken: P is pushed, P comes from FF00 + nr, Z is cleared, "and adds 13 states"
@@ -315,7 +317,7 @@ execute_of m inputs (Sin r) = sin_of m r
 execute_of m inputs (Sde r) = sde_of m r
 execute_of m inputs (Lin r) = lin_of m r
 execute_of m inputs (Lde r) = lde_of m r
-execute_of m inputs (Branch forward c) = branch_of m c forward
+execute_of m inputs (Branch direction c) = branch_of m c direction
 execute_of m inputs Lop = lop_of m
 execute_of m inputs (VectorIf c) = vector_if_of m c
 execute_of m inputs (Vector nr) = vector_of m nr

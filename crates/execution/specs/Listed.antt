@@ -1,7 +1,7 @@
 -- Which bytes are listed (document 01, "Opcodes"), and the places that an instruction has a meaning for.
 use Rattle.std.specs.Prelude.{ℕ, zero, suc, Bool, true, false, cond, ◌||◌, List, [], ◌∷◌, ◌==◌}
-use Rattle.execution.specs.declared.instructions.Decoded.{Decoded}
-use Rattle.execution.specs.declared.instructions.Decoded.TheVariants.{Listed, Unlisted}
+use Rattle.execution.specs.declared.instructions.Listed.{Listed}
+use Rattle.std.specs.Prelude.{Option, Some, None}
 use Rattle.execution.specs.declared.instructions.Instruction.{Instruction}
 use Rattle.execution.specs.declared.instructions.Instruction.TheVariants.{Alu, Sta, Memory, Bii, Drr, Drl, Load, Compare, Inc, Dec, IncWord, DecWord, Sin, Sde, Lin, Lde, Branch, Lop, VectorIf, Vector, Jmp, Sjp, Rtn, Rti, LoadS, Tin, Cin, OnA, Sets, PopWord, PushWord, PopA, PushA, ToX, FromX, DropWord, Adr, Off, Hlt, Cdv, Nop}
 use Rattle.execution.specs.declared.places.Place.{Place}
@@ -9,9 +9,9 @@ use Rattle.execution.specs.declared.places.Place.TheVariants.{InHalf, Pointer, F
 use Rattle.execution.specs.Opcodes.{decoded}
 use Rattle.execution.specs.OpcodesFd.{decoded_fd}
 
-abbrev pub is_listed : Decoded → Bool
-is_listed (Listed i n) = true
-is_listed Unlisted = false
+abbrev pub is_listed : Option Listed → Bool
+is_listed (Some l) = true
+is_listed None = false
 
 -- is a first byte listed? FD is, though it names no instruction by itself
 abbrev pub listed_first : ℕ → Bool
@@ -60,7 +60,7 @@ place_fits (Sin r) = true
 place_fits (Sde r) = true
 place_fits (Lin r) = true
 place_fits (Lde r) = true
-place_fits (Branch forward c) = true
+place_fits (Branch direction c) = true
 place_fits Lop = true
 place_fits (VectorIf c) = true
 place_fits (Vector nr) = true

@@ -3,6 +3,8 @@
 use Rattle.std.specs.Prelude.{ℕ, ◌%◌, Bool, true, false, cond, not, ◌==◌}
 use Rattle.arithmetic.specs.declared.record.Lh5801.{Lh5801}
 use Rattle.execution.specs.declared.instructions.Condition.{Condition}
+use Rattle.execution.specs.declared.instructions.Direction.{Direction}
+use Rattle.execution.specs.declared.instructions.Direction.TheVariants.{Forward, Backward}
 use Rattle.execution.specs.declared.instructions.Instruction.{Instruction}
 use Rattle.execution.specs.declared.instructions.Instruction.TheVariants.{Alu, Sta, Memory, Bii, Drr, Drl, Load, Compare, Inc, Dec, IncWord, DecWord, Sin, Sde, Lin, Lde, Branch, Lop, VectorIf, Vector, Jmp, Sjp, Rtn, Rti, LoadS, Tin, Cin, OnA, Sets, PopWord, PushWord, PopA, PushA, ToX, FromX, DropWord, Adr, Off, Hlt, Cdv, Nop}
 use Rattle.execution.specs.Instructions.{holds_of}
@@ -10,7 +12,7 @@ use Rattle.execution.specs.Instructions.{holds_of}
 -- what an instruction may add: only these four kinds do
 pub data Adds : Type 0 where
   nothing : Adds
-  branch : Condition → Bool → Adds
+  branch : Condition → Direction → Adds
   loop : Adds
   vector_if : Condition → Adds
   vector : Adds
@@ -32,7 +34,7 @@ adds_of (Sin r) = nothing
 adds_of (Sde r) = nothing
 adds_of (Lin r) = nothing
 adds_of (Lde r) = nothing
-adds_of (Branch forward c) = branch c forward
+adds_of (Branch direction c) = branch c direction
 adds_of Lop = loop
 adds_of (VectorIf c) = vector_if c
 adds_of (Vector nr) = vector
@@ -61,8 +63,8 @@ adds_of Nop = nothing
 -- how much, where it is taken
 abbrev pub amount : Adds → ℕ
 amount nothing = 0
-amount (branch c true) = 2
-amount (branch c false) = 3
+amount (branch c Forward) = 2
+amount (branch c Backward) = 3
 amount loop = 3
 amount (vector_if c) = 13
 amount vector = 13
@@ -73,7 +75,7 @@ added_when_taken i = amount (adds_of i)
 -- is it taken from this record?
 abbrev pub taken_from : Lh5801 → Adds → Bool
 taken_from m nothing = false
-taken_from m (branch c forward) = holds_of m.t c
+taken_from m (branch c direction) = holds_of m.t c
 taken_from m loop = not (m.u % 256 == 0)
 taken_from m (vector_if c) = holds_of m.t c
 taken_from m vector = true

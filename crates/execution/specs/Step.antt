@@ -1,5 +1,5 @@
 -- One step (document 01, "One step"), in its order. With an idle figure a halted step waits (document 02, F-1).
-use Rattle.std.specs.Prelude.{ℕ, ◌+◌, Bool, true, false, cond, ◌&&◌, ◌==◌}
+use Rattle.std.specs.Prelude.{ℕ, ◌+◌, true, false, cond, ◌&&◌, ◌==◌}
 use Rattle.arithmetic.specs.declared.record.Lh5801.{Lh5801}
 use Rattle.execution.specs.declared.Inputs.{Inputs}
 use Rattle.arithmetic.specs.Record.{with_p, with_ir1, with_ir2, with_is_timer_reached}
@@ -7,24 +7,26 @@ use Rattle.arithmetic.specs.Flags.{IE, has_flag}
 use Rattle.pages.specs.Prog.{Prog, done, ◌>>=◌}
 use Rattle.pages.specs.Stack.{readop_of, accept_of}
 use Rattle.pages.specs.Timer.{add_state_of, timer_part_of}
-use Rattle.execution.specs.declared.instructions.Decoded.{Decoded}
-use Rattle.execution.specs.declared.instructions.Decoded.TheVariants.{Listed, Unlisted}
-use Rattle.execution.specs.declared.Fetched.{Fetched}
+use Rattle.execution.specs.declared.instructions.Listed.{Listed}
+use Rattle.std.specs.Prelude.{Option, Some, None}
+use Rattle.pages.specs.declared.Code.{Code}
+use Rattle.execution.specs.declared.Opcode.{Opcode}
+use Rattle.execution.specs.declared.Opcode.TheVariants.{First, AfterFd}
 use Rattle.execution.specs.declared.Stop.{Stop}
-use Rattle.execution.specs.declared.Stop.TheVariants.{UnlistedFirst, UnlistedFd, Halted}
+use Rattle.execution.specs.declared.Stop.TheVariants.{Unlisted, Halted}
 use Rattle.execution.specs.Instructions.{execute_of}
 use Rattle.execution.specs.Opcodes.{decoded}
 use Rattle.execution.specs.OpcodesFd.{decoded_fd}
 use Rattle.execution.specs.States.{added_of}
 
 -- what a completed step was: BF was off, IR0 held it, an interrupt was accepted, with its vector, it was halted and waited, or an instruction was
--- executed, after FD or not
+-- executed
 pub data Kind : Type 0 where
   off : Kind
   held : Kind
   interrupt : ℕ → Kind
   waiting : Kind
-  instruction : Bool → ℕ → Kind
+  instruction : Opcode → Kind
 
 -- the least and the greatest number of states of a completed step; one that waits has exactly the idle figure's
 abbrev pub fewest_states : Inputs → Kind → ℕ
@@ -32,14 +34,14 @@ fewest_states inputs off = 8
 fewest_states inputs held = 0
 fewest_states inputs (interrupt vector) = 0
 fewest_states inputs waiting = inputs.idle
-fewest_states inputs (instruction fd byte) = 4
+fewest_states inputs (instruction opcode) = 4
 
 abbrev pub most_states : Inputs → Kind → ℕ
 most_states inputs off = 8
 most_states inputs held = 0
 most_states inputs (interrupt vector) = 0
 most_states inputs waiting = inputs.idle
-most_states inputs (instruction fd byte) = 23
+most_states inputs (instruction opcode) = 23
 
 -- how a step ends. It is document 01's "completed step", with the record after it, its states and what it was; or it stops, and then the
 -- record and the pages before it stand
@@ -48,37 +50,33 @@ pub data StepEnd : Type 0 where
   stopped : Stop → StepEnd
 
 -- the opcode: the first byte, or the byte after FD, and P after it
-abbrev pub fetched : Bool → ℕ → ℕ → Fetched
-fetched fd byte p = record { fd = fd; byte = byte; p = p }
+abbrev pub fetched : Opcode → ℕ → Code Opcode
+fetched opcode p = record { value = opcode; p = p }
 
-unfoldable pub fetch_of : ℕ → Prog Fetched
+unfoldable pub fetch_of : ℕ → Prog (Code Opcode)
 fetch_of p = do
   first ← readop_of p
   cond (first.value == 0xFD)
       (do
         second ← readop_of first.p
-        done (fetched true second.value second.p))
-      (done (fetched false first.value first.p))
+        done (fetched (AfterFd second.value) second.p))
+      (done (fetched (First first.value) first.p))
 
-abbrev pub decoded_by : Bool → ℕ → Decoded
-decoded_by true byte = decoded_fd byte
-decoded_by false byte = decoded byte
-
-abbrev pub unlisted_by : Bool → ℕ → Stop
-unlisted_by true byte = UnlistedFd byte
-unlisted_by false byte = UnlistedFirst byte
+abbrev pub decoded_by : Opcode → Option Listed
+decoded_by (First byte) = decoded byte
+decoded_by (AfterFd byte) = decoded_fd byte
 
 -- what a decoded byte does: its states are those that the table prints and those that it adds where it is taken
-unfoldable pub decoded_step_of : Lh5801 → Inputs → Fetched → Decoded → Prog StepEnd
-decoded_step_of m inputs o (Listed i n) = do
-  k ← execute_of (with_p m o.p) inputs i
-  done (did (timer_part_of (add_state_of k n)) (n + added_of m i) (instruction o.fd o.byte))
-decoded_step_of m inputs o Unlisted = done (stopped (unlisted_by o.fd o.byte))
+unfoldable pub decoded_step_of : Lh5801 → Inputs → Code Opcode → Option Listed → Prog StepEnd
+decoded_step_of m inputs o (Some l) = do
+  k ← execute_of (with_p m o.p) inputs l.instruction
+  done (did (timer_part_of (add_state_of k l.states)) (l.states + added_of m l.instruction) (instruction o.value))
+decoded_step_of m inputs o None = done (stopped (Unlisted o.value))
 
 unfoldable pub instruction_of : Lh5801 → Inputs → Prog StepEnd
 instruction_of m inputs = do
   o ← fetch_of m.p
-  decoded_step_of m inputs o (decoded_by o.fd o.byte)
+  decoded_step_of m inputs o (decoded_by o.value)
 
 -- an accepted interrupt: no states are added
 unfoldable pub interrupt_of : Lh5801 → ℕ → Prog StepEnd

@@ -1,154 +1,226 @@
 // The entries of the opcode tables, one function for each kind of instruction that stands there more than twice: the instruction
 // with what it holds, and its states.
 ghost use Rattle.std.specs.Prelude.{◌≡◌};
-ghost use Rattle.execution.specs.declared.instructions.Decoded.TheVariants.{Listed};
+ghost use Rattle.execution.specs.Opcodes.{listed};
 ghost use Rattle.execution.specs.declared.instructions.Instruction.TheVariants.{Alu, Sta, Memory, Bii, Load, Compare, Inc, Dec, IncWord, DecWord, Sin, Sde, Lin, Lde, Branch, VectorIf, Vector, OnA, Sets, PopWord, PushWord, ToX, FromX, Adr};
 
 use crate::instructions::{
-    Accumulator, Change, Condition, Decoded, Instruction, Operation, Signal, Word,
+    Accumulator, Change, Condition, Direction, Instruction, Listed, Operation, Signal, Word,
 };
 use crate::places::{Half, Place, Register};
 
-pub fn alu(o: Operation, place: Place, states: u8) -> Decoded
-    ensures { result ≡ Listed (Alu o place) states }
+pub fn alu(o: Operation, place: Place, states: u8) -> Option<Listed>
+    ensures { result ≡ listed (Alu o place) states }
 {
-    Decoded::Listed(Instruction::Alu(o, place), states)
+    Some(Listed {
+        instruction: Instruction::Alu(o, place),
+        states,
+    })
 }
 
-pub fn sta(place: Place, states: u8) -> Decoded
-    ensures { result ≡ Listed (Sta place) states }
+pub fn sta(place: Place, states: u8) -> Option<Listed>
+    ensures { result ≡ listed (Sta place) states }
 {
-    Decoded::Listed(Instruction::Sta(place), states)
+    Some(Listed {
+        instruction: Instruction::Sta(place),
+        states,
+    })
 }
 
-pub fn memory(o: Change, place: Place, states: u8) -> Decoded
-    ensures { result ≡ Listed (Memory o place) states }
+pub fn memory(o: Change, place: Place, states: u8) -> Option<Listed>
+    ensures { result ≡ listed (Memory o place) states }
 {
-    Decoded::Listed(Instruction::Memory(o, place), states)
+    Some(Listed {
+        instruction: Instruction::Memory(o, place),
+        states,
+    })
 }
 
-pub fn bii(place: Place, states: u8) -> Decoded
-    ensures { result ≡ Listed (Bii place) states }
+pub fn bii(place: Place, states: u8) -> Option<Listed>
+    ensures { result ≡ listed (Bii place) states }
 {
-    Decoded::Listed(Instruction::Bii(place), states)
+    Some(Listed {
+        instruction: Instruction::Bii(place),
+        states,
+    })
 }
 
-pub fn load(h: Half, states: u8) -> Decoded
-    ensures { result ≡ Listed (Load h) states }
+pub fn load(h: Half, states: u8) -> Option<Listed>
+    ensures { result ≡ listed (Load h) states }
 {
-    Decoded::Listed(Instruction::Load(h), states)
+    Some(Listed {
+        instruction: Instruction::Load(h),
+        states,
+    })
 }
 
-pub fn compare(h: Half, states: u8) -> Decoded
-    ensures { result ≡ Listed (Compare h) states }
+pub fn compare(h: Half, states: u8) -> Option<Listed>
+    ensures { result ≡ listed (Compare h) states }
 {
-    Decoded::Listed(Instruction::Compare(h), states)
+    Some(Listed {
+        instruction: Instruction::Compare(h),
+        states,
+    })
 }
 
-pub fn inc(h: Half, states: u8) -> Decoded
-    ensures { result ≡ Listed (Inc h) states }
+pub fn inc(h: Half, states: u8) -> Option<Listed>
+    ensures { result ≡ listed (Inc h) states }
 {
-    Decoded::Listed(Instruction::Inc(h), states)
+    Some(Listed {
+        instruction: Instruction::Inc(h),
+        states,
+    })
 }
 
-pub fn dec(h: Half, states: u8) -> Decoded
-    ensures { result ≡ Listed (Dec h) states }
+pub fn dec(h: Half, states: u8) -> Option<Listed>
+    ensures { result ≡ listed (Dec h) states }
 {
-    Decoded::Listed(Instruction::Dec(h), states)
+    Some(Listed {
+        instruction: Instruction::Dec(h),
+        states,
+    })
 }
 
-pub fn inc_word(r: Register, states: u8) -> Decoded
-    ensures { result ≡ Listed (IncWord r) states }
+pub fn inc_word(r: Register, states: u8) -> Option<Listed>
+    ensures { result ≡ listed (IncWord r) states }
 {
-    Decoded::Listed(Instruction::IncWord(r), states)
+    Some(Listed {
+        instruction: Instruction::IncWord(r),
+        states,
+    })
 }
 
-pub fn dec_word(r: Register, states: u8) -> Decoded
-    ensures { result ≡ Listed (DecWord r) states }
+pub fn dec_word(r: Register, states: u8) -> Option<Listed>
+    ensures { result ≡ listed (DecWord r) states }
 {
-    Decoded::Listed(Instruction::DecWord(r), states)
+    Some(Listed {
+        instruction: Instruction::DecWord(r),
+        states,
+    })
 }
 
-pub fn sin(r: Register, states: u8) -> Decoded
-    ensures { result ≡ Listed (Sin r) states }
+pub fn sin(r: Register, states: u8) -> Option<Listed>
+    ensures { result ≡ listed (Sin r) states }
 {
-    Decoded::Listed(Instruction::Sin(r), states)
+    Some(Listed {
+        instruction: Instruction::Sin(r),
+        states,
+    })
 }
 
-pub fn sde(r: Register, states: u8) -> Decoded
-    ensures { result ≡ Listed (Sde r) states }
+pub fn sde(r: Register, states: u8) -> Option<Listed>
+    ensures { result ≡ listed (Sde r) states }
 {
-    Decoded::Listed(Instruction::Sde(r), states)
+    Some(Listed {
+        instruction: Instruction::Sde(r),
+        states,
+    })
 }
 
-pub fn lin(r: Register, states: u8) -> Decoded
-    ensures { result ≡ Listed (Lin r) states }
+pub fn lin(r: Register, states: u8) -> Option<Listed>
+    ensures { result ≡ listed (Lin r) states }
 {
-    Decoded::Listed(Instruction::Lin(r), states)
+    Some(Listed {
+        instruction: Instruction::Lin(r),
+        states,
+    })
 }
 
-pub fn lde(r: Register, states: u8) -> Decoded
-    ensures { result ≡ Listed (Lde r) states }
+pub fn lde(r: Register, states: u8) -> Option<Listed>
+    ensures { result ≡ listed (Lde r) states }
 {
-    Decoded::Listed(Instruction::Lde(r), states)
+    Some(Listed {
+        instruction: Instruction::Lde(r),
+        states,
+    })
 }
 
-pub fn branch(c: Condition, forward: bool, states: u8) -> Decoded
-    ensures { result ≡ Listed (Branch forward c) states }
+pub fn branch(c: Condition, direction: Direction, states: u8) -> Option<Listed>
+    ensures { result ≡ listed (Branch direction c) states }
 {
-    Decoded::Listed(Instruction::Branch(forward, c), states)
+    Some(Listed {
+        instruction: Instruction::Branch(direction, c),
+        states,
+    })
 }
 
-pub fn vector_if(c: Condition, states: u8) -> Decoded
-    ensures { result ≡ Listed (VectorIf c) states }
+pub fn vector_if(c: Condition, states: u8) -> Option<Listed>
+    ensures { result ≡ listed (VectorIf c) states }
 {
-    Decoded::Listed(Instruction::VectorIf(c), states)
+    Some(Listed {
+        instruction: Instruction::VectorIf(c),
+        states,
+    })
 }
 
-pub fn vector(nr: u8, states: u8) -> Decoded
-    ensures { result ≡ Listed (Vector nr) states }
+pub fn vector(nr: u8, states: u8) -> Option<Listed>
+    ensures { result ≡ listed (Vector nr) states }
 {
-    Decoded::Listed(Instruction::Vector(nr), states)
+    Some(Listed {
+        instruction: Instruction::Vector(nr),
+        states,
+    })
 }
 
-pub fn accumulator(o: Accumulator, states: u8) -> Decoded
-    ensures { result ≡ Listed (OnA o) states }
+pub fn accumulator(o: Accumulator, states: u8) -> Option<Listed>
+    ensures { result ≡ listed (OnA o) states }
 {
-    Decoded::Listed(Instruction::OnA(o), states)
+    Some(Listed {
+        instruction: Instruction::OnA(o),
+        states,
+    })
 }
 
-pub fn signal(s: Signal, value: bool, states: u8) -> Decoded
-    ensures { result ≡ Listed (Sets s value) states }
+pub fn signal(s: Signal, value: bool, states: u8) -> Option<Listed>
+    ensures { result ≡ listed (Sets s value) states }
 {
-    Decoded::Listed(Instruction::Sets(s, value), states)
+    Some(Listed {
+        instruction: Instruction::Sets(s, value),
+        states,
+    })
 }
 
-pub fn pop_word(r: Register, states: u8) -> Decoded
-    ensures { result ≡ Listed (PopWord r) states }
+pub fn pop_word(r: Register, states: u8) -> Option<Listed>
+    ensures { result ≡ listed (PopWord r) states }
 {
-    Decoded::Listed(Instruction::PopWord(r), states)
+    Some(Listed {
+        instruction: Instruction::PopWord(r),
+        states,
+    })
 }
 
-pub fn push_word(r: Register, states: u8) -> Decoded
-    ensures { result ≡ Listed (PushWord r) states }
+pub fn push_word(r: Register, states: u8) -> Option<Listed>
+    ensures { result ≡ listed (PushWord r) states }
 {
-    Decoded::Listed(Instruction::PushWord(r), states)
+    Some(Listed {
+        instruction: Instruction::PushWord(r),
+        states,
+    })
 }
 
-pub fn to_x(w: Word, states: u8) -> Decoded
-    ensures { result ≡ Listed (ToX w) states }
+pub fn to_x(w: Word, states: u8) -> Option<Listed>
+    ensures { result ≡ listed (ToX w) states }
 {
-    Decoded::Listed(Instruction::ToX(w), states)
+    Some(Listed {
+        instruction: Instruction::ToX(w),
+        states,
+    })
 }
 
-pub fn from_x(w: Word, states: u8) -> Decoded
-    ensures { result ≡ Listed (FromX w) states }
+pub fn from_x(w: Word, states: u8) -> Option<Listed>
+    ensures { result ≡ listed (FromX w) states }
 {
-    Decoded::Listed(Instruction::FromX(w), states)
+    Some(Listed {
+        instruction: Instruction::FromX(w),
+        states,
+    })
 }
 
-pub fn adr(r: Register, states: u8) -> Decoded
-    ensures { result ≡ Listed (Adr r) states }
+pub fn adr(r: Register, states: u8) -> Option<Listed>
+    ensures { result ≡ listed (Adr r) states }
 {
-    Decoded::Listed(Instruction::Adr(r), states)
+    Some(Listed {
+        instruction: Instruction::Adr(r),
+        states,
+    })
 }

@@ -3,7 +3,7 @@ ghost use Rattle.std.specs.Prelude.{◌≡◌, ◌+◌, ◌-◌, ◌%◌};
 ghost use Rattle.pages.specs.Contract.{Changes, Reads};
 ghost use Rattle.execution.specs.Instructions.{holds_of, branched_of, branch_of, lop_of, vector_of, vector_if_of, jmp_of, sjp_of, rtn_of, rti_of};
 
-use crate::instructions::Condition;
+use crate::instructions::{Condition, Direction};
 use arithmetic::record::Lh5801;
 use pages::Memory;
 
@@ -23,32 +23,28 @@ fn holds(t: u8, c: Condition) -> bool
     }
 }
 
-// P less an offset; it wraps.
-fn backward(p: u16, offset: u8) -> u16
-    ensures { result ≡ (p + (65536 - offset)) % 65536 }
-{
-    p.wrapping_sub(offset as u16)
-}
-
 // A taken branch; p is the address after the operand.
-fn branched(cpu: Lh5801, p: u16, offset: u8, forward: bool) -> Lh5801
-    ensures { result ≡ branched_of cpu p offset forward }
+fn branched(cpu: Lh5801, p: u16, offset: u8, direction: Direction) -> Lh5801
+    ensures { result ≡ branched_of cpu p offset direction }
 {
-    if forward {
-        let to = p.wrapping_add(offset as u16);
-        pages::add_state(cpu.with_p(to), 2)
-    } else {
-        let to = backward(p, offset);
-        pages::add_state(cpu.with_p(to), 3)
+    match direction {
+        Direction::Forward => {
+            let to = p.wrapping_add(u16::from(offset));
+            pages::add_state(cpu.with_p(to), 2)
+        }
+        Direction::Backward => {
+            let to = p.wrapping_sub(u16::from(offset));
+            pages::add_state(cpu.with_p(to), 3)
+        }
     }
 }
 
-pub fn branch(cpu: Lh5801, memory: &Memory, c: Condition, forward: bool) -> Lh5801
-    ensures { Reads (branch_of cpu c forward) memory result }
+pub fn branch(cpu: Lh5801, memory: &Memory, c: Condition, direction: Direction) -> Lh5801
+    ensures { Reads (branch_of cpu c direction) memory result }
 {
     let f = memory.cpu_readop(cpu.p);
     if holds(cpu.t, c) {
-        branched(cpu, f.p, f.value, forward)
+        branched(cpu, f.p, f.value, direction)
     } else {
         cpu.with_p(f.p)
     }
@@ -62,7 +58,7 @@ pub fn lop(cpu: Lh5801, memory: &Memory) -> Lh5801
     let l = arithmetic::lop(cpu.u);
     let counted = cpu.with_u(l.u);
     if l.again {
-        branched(counted, f.p, f.value, false)
+        branched(counted, f.p, f.value, Direction::Backward)
     } else {
         counted.with_p(f.p)
     }

@@ -64,6 +64,13 @@ pub enum Accumulator {
     Am1,
 }
 
+// Which way a branch goes.
+#[derive(Clone, Copy)]
+pub enum Direction {
+    Forward,
+    Backward,
+}
+
 // What is set or cleared.
 #[derive(Clone, Copy)]
 pub enum Signal {
@@ -95,7 +102,7 @@ pub enum Instruction {
     Sde(Register),
     Lin(Register),
     Lde(Register),
-    Branch(bool, Condition),
+    Branch(Direction, Condition),
     Lop,
     VectorIf(Condition),
     Vector(u8),
@@ -123,9 +130,9 @@ pub enum Instruction {
 }
 
 // An instruction with its states (document 01's term), without those that a taken branch or vector
-// adds; or an unlisted byte.
+// adds.
 #[derive(Clone, Copy)]
-pub enum Decoded {
-    Listed(Instruction, u8),
-    Unlisted,
+pub struct Listed {
+    pub instruction: Instruction,
+    pub states: u8,
 }

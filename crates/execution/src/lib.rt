@@ -6,14 +6,14 @@ ghost use Rattle.arithmetic.specs.Record.{with_ir1, with_ir2};
 ghost use Rattle.pages.specs.Prog.{mapped};
 ghost use Rattle.pages.specs.Contract.{Changes, Reads};
 ghost use Rattle.execution.specs.Instructions.{execute_of};
-ghost use Rattle.execution.specs.Step.{fetch_of, decoded_by, unlisted_by, reached_of, step_of};
+ghost use Rattle.execution.specs.Step.{fetch_of, decoded_by, reached_of, step_of};
 ghost use Rattle.execution.specs.Code.Outcomes.{outcome_of};
 ghost use Rattle.execution.specs.Code.Due.{due_of, Ready, settled_on_a, settled_signal, settled_of, executed_of, DueAgain};
 ghost use Rattle.execution.specs.Inputs.{of_keyboard};
 
-use crate::instructions::{Accumulator, Decoded, Instruction, Signal};
+use crate::instructions::{Accumulator, Instruction, Listed, Signal};
 use arithmetic::record::Lh5801;
-use pages::Memory;
+use pages::{Code, Memory};
 
 pub mod entries;
 pub mod flow;
@@ -44,35 +44,25 @@ impl Inputs {
     }
 }
 
+// The byte that names an instruction: the first, or the one after FD.
+#[derive(Clone, Copy)]
+pub enum Opcode {
+    First(u8),
+    AfterFd(u8),
+}
+
 // Why a step stops: document 01's 5 and 6 with the byte, and 7.
 #[derive(Clone, Copy)]
 pub enum Stop {
-    UnlistedFirst(u8),
-    UnlistedFd(u8),
+    Unlisted(Opcode),
     Halted,
 }
 
-// The byte that names an instruction, after FD or not, and P after it.
-#[derive(Clone, Copy)]
-pub struct Fetched {
-    pub fd: bool,
-    pub byte: u8,
-    pub p: u16,
-}
-
-// How the step of an instruction ends: completed, with an instruction due again or not, or with a stop.
+// How the step of an instruction is completed: with an instruction due again, or not.
 #[derive(Clone, Copy)]
 pub enum Executed {
     Again(Lh5801),
     Completed(Lh5801),
-    Stopped(Stop),
-}
-
-// A completed step with the record after it, or a stop.
-#[derive(Clone, Copy)]
-pub enum Outcome {
-    Completed(Lh5801),
-    Stopped(Stop),
 }
 
 #[tactic(auto, unfolding(crate::specs::Instructions::execute_of))]
@@ -96,7 +86,7 @@ pub fn execute(cpu: Lh5801, memory: &mut Memory, inputs: Inputs, i: Instruction)
         Instruction::Sde(r) => transfers::sde(cpu, memory, r),
         Instruction::Lin(r) => transfers::lin(cpu, memory, r),
         Instruction::Lde(r) => transfers::lde(cpu, memory, r),
-        Instruction::Branch(forward, c) => flow::branch(cpu, memory, c, forward),
+        Instruction::Branch(direction, c) => flow::branch(cpu, memory, c, direction),
         Instruction::Lop => flow::lop(cpu, memory),
         Instruction::VectorIf(c) => flow::vector_if(cpu, memory, c),
         Instruction::Vector(nr) => flow::vector(cpu, memory, nr),
@@ -124,43 +114,29 @@ pub fn execute(cpu: Lh5801, memory: &mut Memory, inputs: Inputs, i: Instruction)
     }
 }
 
-fn fetch(p: u16, memory: &Memory) -> Fetched
+fn fetch(p: u16, memory: &Memory) -> Code<Opcode>
     ensures { Reads (fetch_of p) memory result }
 {
-    let f = memory.cpu_readop(p);
-    if f.value == 0xfd {
-        let g = memory.cpu_readop(f.p);
-        Fetched {
-            fd: true,
-            byte: g.value,
-            p: g.p,
-        }
-    } else {
-        Fetched {
-            fd: false,
-            byte: f.value,
-            p: f.p,
-        }
+    let first = memory.cpu_readop(p);
+    if first.value != 0xfd {
+        return Code {
+            value: Opcode::First(first.value),
+            p: first.p,
+        };
+    }
+    let second = memory.cpu_readop(first.p);
+    Code {
+        value: Opcode::AfterFd(second.value),
+        p: second.p,
     }
 }
 
-fn decode(fd: bool, byte: u8) -> Decoded
-    ensures { result ≡ decoded_by fd byte }
+fn decode(opcode: Opcode) -> Option<Listed>
+    ensures { result ≡ decoded_by opcode }
 {
-    if !fd {
-        opcodes::decode_first(byte)
-    } else {
-        opcodes_fd::decode_fd(byte)
-    }
-}
-
-fn unlisted(fd: bool, byte: u8) -> Stop
-    ensures { result ≡ unlisted_by fd byte }
-{
-    if fd {
-        Stop::UnlistedFd(byte)
-    } else {
-        Stop::UnlistedFirst(byte)
+    match opcode {
+        Opcode::First(byte) => opcodes::decode_first(byte),
+        Opcode::AfterFd(byte) => opcodes_fd::decode_fd(byte),
     }
 }
 
@@ -199,27 +175,25 @@ fn settled(i: Instruction) -> bool
 }
 
 // The step of an instruction that is due: the record after it, and whether an instruction is due again; or the stop of an unlisted byte.
-pub fn instruction(cpu: Lh5801, memory: &mut Memory, inputs: Inputs) -> Executed
+pub fn instruction(cpu: Lh5801, memory: &mut Memory, inputs: Inputs) -> Result<Executed, Stop>
     requires { (cpu.tm < 512) × Ready cpu }
     ensures { Changes (mapped executed_of (step_of cpu inputs)) memory result × DueAgain result }
 {
-    let o = fetch(cpu.p, memory);
-    match decode(o.fd, o.byte) {
-        Decoded::Listed(i, states) => {
-            let next = execute(cpu.with_p(o.p), memory, inputs, i);
-            // Asked before the timer part: after it, each step costs nine machine instructions more.
-            if settled(i) {
-                let k = pages::timer_part(pages::add_state(next, states));
-                if k.is_timer_reached {
-                    Executed::Completed(k)
-                } else {
-                    Executed::Again(k)
-                }
-            } else {
-                Executed::Completed(pages::timer_part(pages::add_state(next, states)))
-            }
+    let opcode = fetch(cpu.p, memory);
+    let Some(listed) = decode(opcode.value) else {
+        return Err(Stop::Unlisted(opcode.value));
+    };
+    let next = execute(cpu.with_p(opcode.p), memory, inputs, listed.instruction);
+    // Asked before the timer part: after it, each step costs nine machine instructions more.
+    if settled(listed.instruction) {
+        let k = pages::timer_part(pages::add_state(next, listed.states));
+        if k.is_timer_reached {
+            Ok(Executed::Completed(k))
+        } else {
+            Ok(Executed::Again(k))
         }
-        Decoded::Unlisted => Executed::Stopped(unlisted(o.fd, o.byte)),
+    } else {
+        Ok(Executed::Completed(pages::timer_part(pages::add_state(next, listed.states))))
     }
 }
 
@@ -254,23 +228,23 @@ fn acknowledged(cpu: Lh5801) -> Lh5801
 
 // A step with BF set and timer reached clear in which no instruction is due.
 #[tactic(auto, using(crate::proofs::Order::step_halted, crate::proofs::Order::step_waiting))]
-fn powered_step(cpu: Lh5801, memory: &mut Memory, inputs: Inputs) -> Outcome
+fn powered_step(cpu: Lh5801, memory: &mut Memory, inputs: Inputs) -> Result<Lh5801, Stop>
     requires { (cpu.tm < 512) × (cpu.bf ≡ true) × (cpu.is_timer_reached ≡ false) × (due_of cpu ≡ false) }
     ensures { Changes (mapped outcome_of (step_of cpu inputs)) memory result }
 {
     if cpu.ir0 {
-        return Outcome::Completed(pages::timer_part(cpu));
+        return Ok(pages::timer_part(cpu));
     }
     if (cpu.ir1 | cpu.ir2) & arithmetic::get_flag(cpu.t, arithmetic::IE) {
         let at = interrupt_vector(cpu);
         let next = pages::accept(acknowledged(cpu), memory, at);
-        return Outcome::Completed(pages::timer_part(next));
+        return Ok(pages::timer_part(next));
     }
     // Halted.
     if inputs.idle == 0 {
-        return Outcome::Stopped(Stop::Halted);
+        return Err(Stop::Halted);
     }
-    Outcome::Completed(pages::wait(cpu, inputs.idle))
+    Ok(pages::wait(cpu, inputs.idle))
 }
 
 // An instruction is due: BF set, IR0 clear, no interrupt accepted, not halted.
@@ -284,13 +258,13 @@ pub fn due(cpu: Lh5801) -> bool
 }
 
 // One step in which no instruction is due.
-pub fn step_cpu(cpu: Lh5801, memory: &mut Memory, inputs: Inputs) -> Outcome
+pub fn step_cpu(cpu: Lh5801, memory: &mut Memory, inputs: Inputs) -> Result<Lh5801, Stop>
     requires { (cpu.tm < 512) × (due_of cpu ≡ false) }
     ensures { Changes (mapped outcome_of (step_of cpu inputs)) memory result }
 {
     if cpu.bf {
         powered_step(reached(cpu), memory, inputs)
     } else {
-        Outcome::Completed(pages::add_state(cpu, 8))
+        Ok(pages::add_state(cpu, 8))
     }
 }

@@ -9,14 +9,14 @@ ghost use Rattle.execution.specs.Code.Chain.{chained};
 
 use crate::entries;
 use crate::instructions::{
-    Accumulator, Change, Condition, Decoded, Instruction, Operation, Signal,
+    Accumulator, Change, Condition, Direction, Instruction, Listed, Operation, Signal,
 };
 use crate::places::Register::{U, X, Y};
 use crate::places::{Half, Page, Place};
 
 // Rows 0, 1 and 2: A with the low half of X, Y or U, and with the byte of page 0 that it points
 // to.
-fn row_0(byte: u8) -> Decoded
+fn row_0(byte: u8) -> Option<Listed>
     ensures { result ≡ chained (drop 0 (take 8 rows)) 0 byte }
 {
     let low = Place::InHalf(Half::Low(X));
@@ -42,7 +42,7 @@ fn row_0(byte: u8) -> Decoded
     }
 }
 
-fn row_1(byte: u8) -> Decoded
+fn row_1(byte: u8) -> Option<Listed>
     ensures { result ≡ chained (drop 1 (take 8 rows)) 1 byte }
 {
     let low = Place::InHalf(Half::Low(Y));
@@ -68,7 +68,7 @@ fn row_1(byte: u8) -> Decoded
     }
 }
 
-fn row_2(byte: u8) -> Decoded
+fn row_2(byte: u8) -> Option<Listed>
     ensures { result ≡ chained (drop 2 (take 8 rows)) 2 byte }
 {
     let low = Place::InHalf(Half::Low(U));
@@ -95,7 +95,7 @@ fn row_2(byte: u8) -> Decoded
 }
 
 // Row 3: A with the register that the LH5801 does not have.
-fn row_3(byte: u8) -> Decoded
+fn row_3(byte: u8) -> Option<Listed>
     ensures { result ≡ chained (drop 3 (take 8 rows)) 3 byte }
 {
     let missing = Place::InHalf(Half::Missing);
@@ -110,7 +110,7 @@ fn row_3(byte: u8) -> Decoded
 }
 
 // Rows 4, 5 and 6: X, Y or U and its halves, and the byte of page 0 that it points to.
-fn row_4(byte: u8) -> Decoded
+fn row_4(byte: u8) -> Option<Listed>
     ensures { result ≡ chained (drop 4 (take 8 rows)) 4 byte }
 {
     let at = Place::Pointer(Page::Me0, X);
@@ -135,7 +135,7 @@ fn row_4(byte: u8) -> Decoded
     }
 }
 
-fn row_5(byte: u8) -> Decoded
+fn row_5(byte: u8) -> Option<Listed>
     ensures { result ≡ chained (drop 5 (take 8 rows)) 5 byte }
 {
     let at = Place::Pointer(Page::Me0, Y);
@@ -160,7 +160,7 @@ fn row_5(byte: u8) -> Decoded
     }
 }
 
-fn row_6(byte: u8) -> Decoded
+fn row_6(byte: u8) -> Option<Listed>
     ensures { result ≡ chained (drop 6 (take 8 rows)) 6 byte }
 {
     let at = Place::Pointer(Page::Me0, U);
@@ -186,68 +186,77 @@ fn row_6(byte: u8) -> Decoded
 }
 
 // Row 7: the register that the LH5801 does not have.
-fn row_7(byte: u8) -> Decoded
+fn row_7(byte: u8) -> Option<Listed>
     ensures { result ≡ chained (drop 7 (take 8 rows)) 7 byte }
 {
     match byte {
         0x72 => entries::dec(Half::Missing, 5),
-        _ => Decoded::Unlisted,
+        _ => None,
     }
 }
 
 // Row 8: the branches forward, A with XH, DCA by X, LOP and RTI.
-fn row_8(byte: u8) -> Decoded
+fn row_8(byte: u8) -> Option<Listed>
     ensures { result ≡ chained (drop 8 rows) 8 byte }
 {
     let high = Place::InHalf(Half::High(X));
     match byte {
         0x80 => entries::alu(Operation::Sbc, high, 6),
-        0x81 => entries::branch(Condition::NoCarry, true, 8),
+        0x81 => entries::branch(Condition::NoCarry, Direction::Forward, 8),
         0x82 => entries::alu(Operation::Adc, high, 6),
-        0x83 => entries::branch(Condition::Carry, true, 8),
+        0x83 => entries::branch(Condition::Carry, Direction::Forward, 8),
         0x84 => entries::alu(Operation::Lda, high, 5),
-        0x85 => entries::branch(Condition::NoHalfCarry, true, 8),
+        0x85 => entries::branch(Condition::NoHalfCarry, Direction::Forward, 8),
         0x86 => entries::alu(Operation::Cpa, high, 6),
-        0x87 => entries::branch(Condition::HalfCarry, true, 8),
-        0x88 => Decoded::Listed(Instruction::Lop, 8),
-        0x89 => entries::branch(Condition::NotZero, true, 8),
-        0x8a => Decoded::Listed(Instruction::Rti, 14),
-        0x8b => entries::branch(Condition::Zero, true, 8),
+        0x87 => entries::branch(Condition::HalfCarry, Direction::Forward, 8),
+        0x88 => Some(Listed {
+            instruction: Instruction::Lop,
+            states: 8,
+        }),
+        0x89 => entries::branch(Condition::NotZero, Direction::Forward, 8),
+        0x8a => Some(Listed {
+            instruction: Instruction::Rti,
+            states: 14,
+        }),
+        0x8b => entries::branch(Condition::Zero, Direction::Forward, 8),
         0x8c => entries::alu(Operation::Dca, Place::Pointer(Page::Me0, X), 15),
-        0x8d => entries::branch(Condition::NoOverflow, true, 8),
-        0x8e => entries::branch(Condition::Always, true, 6),
-        0x8f => entries::branch(Condition::Overflow, true, 8),
+        0x8d => entries::branch(Condition::NoOverflow, Direction::Forward, 8),
+        0x8e => entries::branch(Condition::Always, Direction::Forward, 6),
+        0x8f => entries::branch(Condition::Overflow, Direction::Forward, 8),
         _ => row_9(byte),
     }
 }
 
 // Row 9: the branches backward, A with YH, DCA by Y, and RTN.
-fn row_9(byte: u8) -> Decoded
+fn row_9(byte: u8) -> Option<Listed>
     ensures { result ≡ chained (drop 9 rows) 9 byte }
 {
     let high = Place::InHalf(Half::High(Y));
     match byte {
         0x90 => entries::alu(Operation::Sbc, high, 6),
-        0x91 => entries::branch(Condition::NoCarry, false, 8),
+        0x91 => entries::branch(Condition::NoCarry, Direction::Backward, 8),
         0x92 => entries::alu(Operation::Adc, high, 6),
-        0x93 => entries::branch(Condition::Carry, false, 8),
+        0x93 => entries::branch(Condition::Carry, Direction::Backward, 8),
         0x94 => entries::alu(Operation::Lda, high, 5),
-        0x95 => entries::branch(Condition::NoHalfCarry, false, 8),
+        0x95 => entries::branch(Condition::NoHalfCarry, Direction::Backward, 8),
         0x96 => entries::alu(Operation::Cpa, high, 6),
-        0x97 => entries::branch(Condition::HalfCarry, false, 8),
-        0x99 => entries::branch(Condition::NotZero, false, 8),
-        0x9a => Decoded::Listed(Instruction::Rtn, 11),
-        0x9b => entries::branch(Condition::Zero, false, 8),
+        0x97 => entries::branch(Condition::HalfCarry, Direction::Backward, 8),
+        0x99 => entries::branch(Condition::NotZero, Direction::Backward, 8),
+        0x9a => Some(Listed {
+            instruction: Instruction::Rtn,
+            states: 11,
+        }),
+        0x9b => entries::branch(Condition::Zero, Direction::Backward, 8),
         0x9c => entries::alu(Operation::Dca, Place::Pointer(Page::Me0, Y), 15),
-        0x9d => entries::branch(Condition::NoOverflow, false, 8),
-        0x9e => entries::branch(Condition::Always, false, 6),
-        0x9f => entries::branch(Condition::Overflow, false, 8),
+        0x9d => entries::branch(Condition::NoOverflow, Direction::Backward, 8),
+        0x9e => entries::branch(Condition::Always, Direction::Backward, 6),
+        0x9f => entries::branch(Condition::Overflow, Direction::Backward, 8),
         _ => row_a(byte),
     }
 }
 
 // Row A: A with UH, DCA by U, and A with the byte of page 0 at the word in the code.
-fn row_a(byte: u8) -> Decoded
+fn row_a(byte: u8) -> Option<Listed>
     ensures { result ≡ chained (drop 10 rows) 10 byte }
 {
     let high = Place::InHalf(Half::High(U));
@@ -263,7 +272,10 @@ fn row_a(byte: u8) -> Decoded
         0xa7 => entries::alu(Operation::Cpa, fixed, 13),
         0xa8 => entries::signal(Signal::Pv, true, 4),
         0xa9 => entries::alu(Operation::And, fixed, 13),
-        0xaa => Decoded::Listed(Instruction::LoadS, 12),
+        0xaa => Some(Listed {
+            instruction: Instruction::LoadS,
+            states: 12,
+        }),
         0xab => entries::alu(Operation::Ora, fixed, 13),
         0xac => entries::alu(Operation::Dca, Place::Pointer(Page::Me0, U), 15),
         0xad => entries::alu(Operation::Eor, fixed, 13),
@@ -274,7 +286,7 @@ fn row_a(byte: u8) -> Decoded
 }
 
 // Row B: A with the byte in the code; JMP and SJP.
-fn row_b(byte: u8) -> Decoded
+fn row_b(byte: u8) -> Option<Listed>
     ensures { result ≡ chained (drop 11 rows) 11 byte }
 {
     let in_code = Place::InCode;
@@ -285,10 +297,16 @@ fn row_b(byte: u8) -> Decoded
         0xb7 => entries::alu(Operation::Cpa, in_code, 7),
         0xb8 => entries::signal(Signal::Pv, false, 4),
         0xb9 => entries::alu(Operation::And, in_code, 7),
-        0xba => Decoded::Listed(Instruction::Jmp, 12),
+        0xba => Some(Listed {
+            instruction: Instruction::Jmp,
+            states: 12,
+        }),
         0xbb => entries::alu(Operation::Ora, in_code, 7),
         0xbd => entries::alu(Operation::Eor, in_code, 7),
-        0xbe => Decoded::Listed(Instruction::Sjp, 19),
+        0xbe => Some(Listed {
+            instruction: Instruction::Sjp,
+            states: 19,
+        }),
         0xbf => entries::alu(Operation::Bit, in_code, 7),
         _ => row_c(byte),
     }
@@ -296,7 +314,7 @@ fn row_b(byte: u8) -> Decoded
 
 // Row C: the conditional vectors, and in the even columns the vector that the byte itself
 // numbers, as in rows D, E and F.
-fn row_c(byte: u8) -> Decoded
+fn row_c(byte: u8) -> Option<Listed>
     ensures { result ≡ chained (drop 12 rows) 12 byte }
 {
     match byte {
@@ -321,18 +339,24 @@ fn row_c(byte: u8) -> Decoded
 }
 
 // Row D: shifts, moves of digits, INC A and DEC A.
-fn row_d(byte: u8) -> Decoded
+fn row_d(byte: u8) -> Option<Listed>
     ensures { result ≡ chained (drop 13 rows) 13 byte }
 {
     match byte {
         0xd0 => entries::vector(0xd0, 4),
         0xd1 => entries::accumulator(Accumulator::Ror, 9),
         0xd2 => entries::vector(0xd2, 4),
-        0xd3 => Decoded::Listed(Instruction::Drr(Page::Me0), 12),
+        0xd3 => Some(Listed {
+            instruction: Instruction::Drr(Page::Me0),
+            states: 12,
+        }),
         0xd4 => entries::vector(0xd4, 4),
         0xd5 => entries::accumulator(Accumulator::Shr, 9),
         0xd6 => entries::vector(0xd6, 4),
-        0xd7 => Decoded::Listed(Instruction::Drl(Page::Me0), 12),
+        0xd7 => Some(Listed {
+            instruction: Instruction::Drl(Page::Me0),
+            states: 12,
+        }),
         0xd8 => entries::vector(0xd8, 4),
         0xd9 => entries::accumulator(Accumulator::Shl, 6),
         0xda => entries::vector(0xda, 4),
@@ -346,7 +370,7 @@ fn row_d(byte: u8) -> Decoded
 }
 
 // Row E: PU, and the byte of page 0 at the word in the code, changed or tested by the byte after it.
-fn row_e(byte: u8) -> Decoded
+fn row_e(byte: u8) -> Option<Listed>
     ensures { result ≡ chained (drop 14 rows) 14 byte }
 {
     let fixed = Place::Fixed(Page::Me0);
@@ -371,7 +395,7 @@ fn row_e(byte: u8) -> Decoded
 
 // Row F: AEX, TIN, CIN and the carry. FD is not listed here: the byte after it goes to
 // `decode_fd`.
-fn row_f(byte: u8) -> Decoded
+fn row_f(byte: u8) -> Option<Listed>
     ensures { result ≡ chained (drop 15 rows) 15 byte }
 {
     match byte {
@@ -379,17 +403,23 @@ fn row_f(byte: u8) -> Decoded
         0xf1 => entries::accumulator(Accumulator::Aex, 6),
         0xf2 => entries::vector(0xf2, 4),
         0xf4 => entries::vector(0xf4, 4),
-        0xf5 => Decoded::Listed(Instruction::Tin, 7),
+        0xf5 => Some(Listed {
+            instruction: Instruction::Tin,
+            states: 7,
+        }),
         0xf6 => entries::vector(0xf6, 4),
-        0xf7 => Decoded::Listed(Instruction::Cin, 7),
+        0xf7 => Some(Listed {
+            instruction: Instruction::Cin,
+            states: 7,
+        }),
         0xf9 => entries::signal(Signal::CarryFlag, false, 4),
         0xfb => entries::signal(Signal::CarryFlag, true, 4),
-        _ => Decoded::Unlisted,
+        _ => None,
     }
 }
 
 // The instruction of a first byte. FD names none, so it answers Unlisted.
-pub fn decode_first(byte: u8) -> Decoded
+pub fn decode_first(byte: u8) -> Option<Listed>
     ensures { result ≡ decoded byte }
 {
     if byte < 128 { row_0(byte) } else { row_8(byte) }

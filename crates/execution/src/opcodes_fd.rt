@@ -6,13 +6,13 @@ ghost use Rattle.execution.specs.OpcodesFd.{rows_fd, decoded_fd};
 ghost use Rattle.execution.specs.Code.Chain.{chained};
 
 use crate::entries;
-use crate::instructions::{Accumulator, Change, Decoded, Instruction, Operation, Signal, Word};
+use crate::instructions::{Accumulator, Change, Instruction, Listed, Operation, Signal, Word};
 use crate::places::Register::{U, X, Y};
 use crate::places::{Half, Page, Place};
 
 // Rows 0, 1 and 2: A with the byte of page 1 that X, Y or U points to; the register to X, and
 // popped.
-fn row_0(byte: u8) -> Decoded
+fn row_0(byte: u8) -> Option<Listed>
     ensures { result ≡ chained (drop 0 rows_fd) 0 byte }
 {
     let at = Place::Pointer(Page::Me1, X);
@@ -33,7 +33,7 @@ fn row_0(byte: u8) -> Decoded
     }
 }
 
-fn row_1(byte: u8) -> Decoded
+fn row_1(byte: u8) -> Option<Listed>
     ensures { result ≡ chained (drop 1 rows_fd) 1 byte }
 {
     let at = Place::Pointer(Page::Me1, Y);
@@ -54,7 +54,7 @@ fn row_1(byte: u8) -> Decoded
     }
 }
 
-fn row_2(byte: u8) -> Decoded
+fn row_2(byte: u8) -> Option<Listed>
     ensures { result ≡ chained (drop 2 rows_fd) 2 byte }
 {
     let at = Place::Pointer(Page::Me1, U);
@@ -76,18 +76,21 @@ fn row_2(byte: u8) -> Decoded
 }
 
 // Row 3: a word dropped from the stack.
-fn row_3(byte: u8) -> Decoded
+fn row_3(byte: u8) -> Option<Listed>
     ensures { result ≡ chained (drop 3 rows_fd) 3 byte }
 {
     match byte {
-        0x3a => Decoded::Listed(Instruction::DropWord, 15),
+        0x3a => Some(Listed {
+            instruction: Instruction::DropWord,
+            states: 15,
+        }),
         _ => row_4(byte),
     }
 }
 
 // Rows 4, 5 and 6: the high half of X, Y or U, X to the register, and the byte of page 1 that it points to;
 // in row 4 also S and OFF, in row 5 P.
-fn row_4(byte: u8) -> Decoded
+fn row_4(byte: u8) -> Option<Listed>
     ensures { result ≡ chained (drop 4 rows_fd) 4 byte }
 {
     let at = Place::Pointer(Page::Me1, X);
@@ -98,7 +101,10 @@ fn row_4(byte: u8) -> Decoded
         0x49 => entries::memory(Change::Ani, at, 17),
         0x4a => entries::from_x(Word::Of(X), 11),
         0x4b => entries::memory(Change::Ori, at, 17),
-        0x4c => Decoded::Listed(Instruction::Off, 8),
+        0x4c => Some(Listed {
+            instruction: Instruction::Off,
+            states: 8,
+        }),
         0x4d => entries::bii(at, 14),
         0x4e => entries::from_x(Word::S, 11),
         0x4f => entries::memory(Change::Adi, at, 17),
@@ -106,7 +112,7 @@ fn row_4(byte: u8) -> Decoded
     }
 }
 
-fn row_5(byte: u8) -> Decoded
+fn row_5(byte: u8) -> Option<Listed>
     ensures { result ≡ chained (drop 5 rows_fd) 5 byte }
 {
     let at = Place::Pointer(Page::Me1, Y);
@@ -124,7 +130,7 @@ fn row_5(byte: u8) -> Decoded
     }
 }
 
-fn row_6(byte: u8) -> Decoded
+fn row_6(byte: u8) -> Option<Listed>
     ensures { result ≡ chained (drop 6 rows_fd) 6 byte }
 {
     let at = Place::Pointer(Page::Me1, U);
@@ -141,20 +147,26 @@ fn row_6(byte: u8) -> Decoded
 }
 
 // Rows 8 and 9: X or Y pushed, and DCA; in row 8 also IE set, POP A and CDV.
-fn row_8(byte: u8) -> Decoded
+fn row_8(byte: u8) -> Option<Listed>
     ensures { result ≡ chained (drop 8 rows_fd) 8 byte }
 {
     match byte {
         0x81 => entries::signal(Signal::InterruptEnable, true, 8),
         0x88 => entries::push_word(X, 14),
-        0x8a => Decoded::Listed(Instruction::PopA, 12),
+        0x8a => Some(Listed {
+            instruction: Instruction::PopA,
+            states: 12,
+        }),
         0x8c => entries::alu(Operation::Dca, Place::Pointer(Page::Me1, X), 19),
-        0x8e => Decoded::Listed(Instruction::Cdv, 8),
+        0x8e => Some(Listed {
+            instruction: Instruction::Cdv,
+            states: 8,
+        }),
         _ => row_9(byte),
     }
 }
 
-fn row_9(byte: u8) -> Decoded
+fn row_9(byte: u8) -> Option<Listed>
     ensures { result ≡ chained (drop 9 rows_fd) 9 byte }
 {
     match byte {
@@ -165,7 +177,7 @@ fn row_9(byte: u8) -> Decoded
 }
 
 // Row A: U pushed, DCA, A with the byte of page 1 at the word in the code, and T to A.
-fn row_a(byte: u8) -> Decoded
+fn row_a(byte: u8) -> Option<Listed>
     ensures { result ≡ chained (drop 10 rows_fd) 10 byte }
 {
     let fixed = Place::Fixed(Page::Me1);
@@ -187,11 +199,14 @@ fn row_a(byte: u8) -> Decoded
 }
 
 // Row B: HLT, the input port to A, IE cleared.
-fn row_b(byte: u8) -> Decoded
+fn row_b(byte: u8) -> Option<Listed>
     ensures { result ≡ chained (drop 11 rows_fd) 11 byte }
 {
     match byte {
-        0xb1 => Decoded::Listed(Instruction::Hlt, 9),
+        0xb1 => Some(Listed {
+            instruction: Instruction::Hlt,
+            states: 9,
+        }),
         0xba => entries::accumulator(Accumulator::Ita, 9),
         0xbe => entries::signal(Signal::InterruptEnable, false, 8),
         _ => row_c(byte),
@@ -199,27 +214,39 @@ fn row_b(byte: u8) -> Decoded
 }
 
 // Row C: the display, PSH A, A added to X, and A to the timer with bit 8 clear.
-fn row_c(byte: u8) -> Decoded
+fn row_c(byte: u8) -> Option<Listed>
     ensures { result ≡ chained (drop 12 rows_fd) 12 byte }
 {
     match byte {
         0xc0 => entries::signal(Signal::Disp, false, 8),
         0xc1 => entries::signal(Signal::Disp, true, 8),
-        0xc8 => Decoded::Listed(Instruction::PushA, 11),
+        0xc8 => Some(Listed {
+            instruction: Instruction::PushA,
+            states: 11,
+        }),
         0xca => entries::adr(X, 11),
-        0xcc => Decoded::Listed(Instruction::Nop, 9),
+        0xcc => Some(Listed {
+            instruction: Instruction::Nop,
+            states: 9,
+        }),
         0xce => entries::accumulator(Accumulator::Am0, 9),
         _ => row_d(byte),
     }
 }
 
 // Row D: moves of digits, A added to Y, and A to the timer with bit 8 set.
-fn row_d(byte: u8) -> Decoded
+fn row_d(byte: u8) -> Option<Listed>
     ensures { result ≡ chained (drop 13 rows_fd) 13 byte }
 {
     match byte {
-        0xd3 => Decoded::Listed(Instruction::Drr(Page::Me1), 16),
-        0xd7 => Decoded::Listed(Instruction::Drl(Page::Me1), 16),
+        0xd3 => Some(Listed {
+            instruction: Instruction::Drr(Page::Me1),
+            states: 16,
+        }),
+        0xd7 => Some(Listed {
+            instruction: Instruction::Drl(Page::Me1),
+            states: 16,
+        }),
         0xda => entries::adr(Y, 11),
         0xde => entries::accumulator(Accumulator::Am1, 9),
         _ => row_e(byte),
@@ -228,7 +255,7 @@ fn row_d(byte: u8) -> Decoded
 
 // Row E: the byte of page 1 at the word in the code, changed or tested by the byte after it;
 // A added to U, and A to T.
-fn row_e(byte: u8) -> Decoded
+fn row_e(byte: u8) -> Option<Listed>
     ensures { result ≡ chained (drop 14 rows_fd) 14 byte }
 {
     let fixed = Place::Fixed(Page::Me1);
@@ -239,12 +266,12 @@ fn row_e(byte: u8) -> Decoded
         0xec => entries::accumulator(Accumulator::Att, 9),
         0xed => entries::bii(fixed, 20),
         0xef => entries::memory(Change::Adi, fixed, 23),
-        _ => Decoded::Unlisted,
+        _ => None,
     }
 }
 
 // The instruction of a byte after FD.
-pub fn decode_fd(byte: u8) -> Decoded
+pub fn decode_fd(byte: u8) -> Option<Listed>
     ensures { result ≡ decoded_fd byte }
 {
     row_0(byte)

@@ -42,7 +42,7 @@ packed byte a t = byte * 65536 + a * 256 + t
 abbrev pub of_record : Lh5801 → ℕ
 of_record m = packed 0 m.a m.t
 
-abbrev pub of_sum : ℕ → Sum → ℕ
+abbrev pub of_sum : ℕ → Sum ℕ → ℕ
 of_sum byte s = packed byte s.value s.t
 
 abbrev pub of_moved : ℕ → Moved → ℕ

@@ -10,30 +10,14 @@ use arithmetic::record::Lh5801;
 use arithmetic::{Moved, Sum};
 
 // A record with this A and T, and nothing else set.
+#[tactic(auto, unfolding(crate::specs::Answers::blank_of))]
 fn blank(a: u8, t: u8) -> Lh5801
     ensures { result ≡ blank_of a t }
 {
     Lh5801 {
-        a: a,
-        t: t,
-        x: 0,
-        y: 0,
-        u: 0,
-        s: 0,
-        p: 0,
-        is_halted: false,
-        pu: false,
-        pv: false,
-        bf: false,
-        disp: false,
-        tm: 0,
-        ir0: false,
-        ir1: false,
-        ir2: false,
-        is_timer_reached: false,
-        timer_state: 0,
-        step_previous_state: 0,
-        ticks: 0,
+        a,
+        t,
+        ..Lh5801::default()
     }
 }
 
@@ -41,7 +25,7 @@ fn blank(a: u8, t: u8) -> Lh5801
 fn pack(byte: u8, a: u8, t: u8) -> u32
     ensures { result ≡ packed byte a t }
 {
-    byte as u32 * 65536 + a as u32 * 256 + t as u32
+    u32::from(byte) * 65536 + u32::from(a) * 256 + u32::from(t)
 }
 
 fn of_record(cpu: Lh5801) -> u32
@@ -50,7 +34,7 @@ fn of_record(cpu: Lh5801) -> u32
     pack(0, cpu.a, cpu.t)
 }
 
-fn of_sum(s: Sum) -> u32
+fn of_sum(s: Sum<u8>) -> u32
     ensures { result ≡ of_sum 0 s }
 {
     pack(0, s.value, s.t)
@@ -113,7 +97,7 @@ pub extern "C" fn probe_adr(t: u8, reg: u16, a: u8) -> u32
     ensures { result ≡ adr_answer t reg a }
 {
     let s = arithmetic::adr(t, reg, a);
-    s.value as u32 * 256 + s.t as u32
+    u32::from(s.value) * 256 + u32::from(s.t)
 }
 
 // The line of a campaign file, as the program campaign prints it, at the start of a buffer; its length is returned.

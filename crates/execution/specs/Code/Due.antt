@@ -10,10 +10,11 @@ use Rattle.execution.specs.declared.instructions.Signal.{Signal}
 use Rattle.execution.specs.declared.instructions.Signal.TheVariants.{Pu, Pv, Disp, CarryFlag, InterruptEnable}
 use Rattle.execution.specs.declared.instructions.Instruction.{Instruction}
 use Rattle.execution.specs.declared.instructions.Instruction.TheVariants.{Alu, Sta, Memory, Bii, Drr, Drl, Load, Compare, Inc, Dec, IncWord, DecWord, Sin, Sde, Lin, Lde, Branch, Lop, VectorIf, Vector, Jmp, Sjp, Rtn, Rti, LoadS, Tin, Cin, OnA, Sets, PopWord, PushWord, PopA, PushA, ToX, FromX, DropWord, Adr, Off, Hlt, Cdv, Nop}
-use Rattle.execution.specs.declared.instructions.Decoded.{Decoded}
-use Rattle.execution.specs.declared.instructions.Decoded.TheVariants.{Listed, Unlisted}
+use Rattle.execution.specs.declared.instructions.Listed.{Listed}
+use Rattle.std.specs.Prelude.{Option, Some, None, Result, Ok, Err}
 use Rattle.execution.specs.declared.Executed.{Executed}
-use Rattle.execution.specs.declared.Executed.TheVariants.{Again, Completed, Stopped}
+use Rattle.execution.specs.declared.Executed.TheVariants.{Again, Completed}
+use Rattle.execution.specs.declared.Stop.{Stop}
 use Rattle.execution.specs.Step.{Kind, off, held, interrupt, waiting, instruction, StepEnd, did, stopped, decoded_by}
 
 -- BF set, and neither IR0, nor with IE a request or timer reached, nor halted
@@ -69,7 +70,7 @@ settled_of (Sin r) = true
 settled_of (Sde r) = true
 settled_of (Lin r) = true
 settled_of (Lde r) = true
-settled_of (Branch forward c) = true
+settled_of (Branch direction c) = true
 settled_of Lop = true
 settled_of (VectorIf c) = true
 settled_of (Vector nr) = true
@@ -96,9 +97,9 @@ settled_of Cdv = true
 settled_of Nop = true
 
 -- a byte that decodes to such an instruction
-abbrev pub settled_by : Decoded → Bool
-settled_by (Listed i n) = settled_of i
-settled_by Unlisted = false
+abbrev pub settled_by : Option Listed → Bool
+settled_by (Some l) = settled_of l.instruction
+settled_by None = false
 
 -- how the step of a due instruction ends: after a settled instruction that did not reach 1FF an instruction is due again
 abbrev pub executed_as : Kind → Lh5801 → Executed
@@ -106,14 +107,14 @@ executed_as off m = Completed m
 executed_as held m = Completed m
 executed_as (interrupt vector) m = Completed m
 executed_as waiting m = Completed m
-executed_as (instruction fd byte) m = cond (settled_by (decoded_by fd byte) && not m.is_timer_reached) (Again m) (Completed m)
+executed_as (instruction opcode) m = cond (settled_by (decoded_by opcode) && not m.is_timer_reached) (Again m) (Completed m)
 
-abbrev pub executed_of : StepEnd → Executed
-executed_of (did m states kind) = executed_as kind m
-executed_of (stopped s) = Stopped s
+abbrev pub executed_of : StepEnd → Result Executed Stop
+executed_of (did m states kind) = Ok (executed_as kind m)
+executed_of (stopped s) = Err s
 
 -- what it says where an instruction is due again
-abbrev pub DueAgain : Executed → Type 0
-DueAgain (Again m) = Ready m
-DueAgain (Completed m) = Unit {0}
-DueAgain (Stopped s) = Unit {0}
+abbrev pub DueAgain : Result Executed Stop → Type 0
+DueAgain (Ok (Again m)) = Ready m
+DueAgain (Ok (Completed m)) = Unit {0}
+DueAgain (Err s) = Unit {0}

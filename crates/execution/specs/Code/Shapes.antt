@@ -21,15 +21,17 @@ use Rattle.execution.specs.declared.instructions.Condition.{Condition}
 use Rattle.execution.specs.declared.instructions.Condition.TheVariants.{NoCarry, Carry, NoHalfCarry, HalfCarry, NotZero, Zero, NoOverflow, Overflow, Always}
 use Rattle.execution.specs.declared.instructions.Instruction.{Instruction}
 use Rattle.execution.specs.declared.instructions.Instruction.TheVariants.{Alu, Sta, Memory, Bii, Drr, Drl, Load, Compare, Inc, Dec, IncWord, DecWord, Sin, Sde, Lin, Lde, Branch, Lop, VectorIf, Vector, Jmp, Sjp, Rtn, Rti, LoadS, Tin, Cin, OnA, Sets, PopWord, PushWord, PopA, PushA, ToX, FromX, DropWord, Adr, Off, Hlt, Cdv, Nop}
-use Rattle.execution.specs.declared.instructions.Decoded.{Decoded}
-use Rattle.execution.specs.declared.instructions.Decoded.TheVariants.{Listed, Unlisted}
-use Rattle.execution.specs.declared.Fetched.{Fetched}
+use Rattle.execution.specs.declared.instructions.Listed.{Listed}
+use Rattle.std.specs.Prelude.{Option, Some, None}
+use Rattle.pages.specs.declared.Code.{Code}
+use Rattle.execution.specs.declared.Opcode.{Opcode}
+use Rattle.execution.specs.declared.Opcode.TheVariants.{First, AfterFd}
 use Rattle.execution.specs.Step.{fetched, decoded_by}
 
 -- the opcode that the pages hold at p
-abbrev pub opcode_at : Pages → ℕ → Fetched
+abbrev pub opcode_at : Pages → ℕ → Code Opcode
 opcode_at pages p =
-    cond (at pages p == 0xFD) (fetched true (at pages (up16 p)) (up16 (up16 p))) (fetched false (at pages p) (up16 p))
+    cond (at pages p == 0xFD) (fetched (AfterFd (at pages (up16 p))) (up16 (up16 p))) (fetched (First (at pages p)) (up16 p))
 
 -- k bytes read one after the other from a, which wraps on 16 bits
 abbrev pub bytes_from : Pages → ℕ → ℕ → List Access
@@ -217,7 +219,7 @@ shape_of byte (Sin r) = place_shape 1 (Pointer Me0 r)
 shape_of byte (Sde r) = place_shape 1 (Pointer Me0 r)
 shape_of byte (Lin r) = place_shape 0 (Pointer Me0 r)
 shape_of byte (Lde r) = place_shape 0 (Pointer Me0 r)
-shape_of byte (Branch forward c) = 65
+shape_of byte (Branch direction c) = 65
 shape_of byte Lop = 65
 shape_of byte (VectorIf c) = 80 + condition_number c
 shape_of byte (Vector nr) = cond (nr == byte) 75 254
@@ -243,24 +245,29 @@ shape_of byte Hlt = 64
 shape_of byte Cdv = 64
 shape_of byte Nop = 64
 
-abbrev pub shape_in : ℕ → Decoded → ℕ
-shape_in byte (Listed i n) = shape_of byte i
-shape_in byte Unlisted = 255
+abbrev pub shape_in : ℕ → Option Listed → ℕ
+shape_in byte (Some l) = shape_of byte l.instruction
+shape_in byte None = 255
 
--- the shape of an opcode, after FD or not
-unfoldable pub shape_by : Bool → ℕ → ℕ
-shape_by fd byte = shape_in byte (decoded_by fd byte)
+-- the byte that names an instruction
+abbrev pub byte_of : Opcode → ℕ
+byte_of (First byte) = byte
+byte_of (AfterFd byte) = byte
+
+-- the shape of an opcode
+unfoldable pub shape_by : Opcode → ℕ
+shape_by opcode = shape_in (byte_of opcode) (decoded_by opcode)
 
 -- the bytes that name an instruction
-abbrev pub opcode_accesses : Pages → ℕ → Bool → List Access
-opcode_accesses pages p true = bytes_from pages p 2
-opcode_accesses pages p false = bytes_from pages p 1
+abbrev pub opcode_accesses : Pages → ℕ → Opcode → List Access
+opcode_accesses pages p (First byte) = bytes_from pages p 1
+opcode_accesses pages p (AfterFd byte) = bytes_from pages p 2
 
 -- the accesses of the instruction that this opcode names, and none where it is unlisted
-abbrev pub fetched_accesses : Lh5801 → Pages → Fetched → List Access
+abbrev pub fetched_accesses : Lh5801 → Pages → Code Opcode → List Access
 fetched_accesses m pages o =
-    cond (shape_by o.fd o.byte == 255) []
-    (opcode_accesses pages m.p o.fd ++ shape_accesses (with_p m o.p) pages o.byte (shape_by o.fd o.byte))
+    cond (shape_by o.value == 255) []
+    (opcode_accesses pages m.p o.value ++ shape_accesses (with_p m o.p) pages (byte_of o.value) (shape_by o.value))
 
 unfoldable pub instruction_accesses : Lh5801 → Pages → List Access
 instruction_accesses m pages = fetched_accesses m pages (opcode_at pages m.p)

@@ -1,7 +1,7 @@
 use Rattle.execution.proofs.flow.branched.Goals as goal
 
-pub returns-then-forward : goal.returns-then-forward
-returns-then-forward c = rw c.if-forward.true (rw (c.add_state.ensures, c.with_p.ensures))
+pub returns-in-Forward : goal.returns-in-Forward
+returns-in-Forward c = rw (c.add_state.ensures, c.with_p.ensures, c.from.ensures, c.in-Forward.is)
 
-pub returns-else-forward : goal.returns-else-forward
-returns-else-forward c = rw c.if-forward.false (rw (c.add_state-else-forward.ensures, c.with_p-else-forward.ensures, c.backward-to.ensures))
+pub returns-in-Backward : goal.returns-in-Backward
+returns-in-Backward c = rw (c.add_state-in-Backward.ensures, c.with_p-in-Backward.ensures, c.from-in-Backward.ensures, c.in-Backward.is)

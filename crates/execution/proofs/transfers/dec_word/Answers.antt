@@ -1,6 +1,4 @@
-use Rattle.pages.proofs.Stack.{down_only}
 use Rattle.execution.specs.Instructions.{dec_word_of}
-use Rattle.std.proofs.Common.{rules}
 use Rattle.execution.proofs.transfers.dec_word.Goals as goal
 
 pub returns : goal.returns

@@ -1,4 +1,0 @@
-use Rattle.arithmetic.proofs.right_overflow.Goals as goal
-
-pub returns : goal.returns
-returns c = cc

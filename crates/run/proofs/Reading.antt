@@ -1,7 +1,7 @@
 -- A file that is read holds its two pages whole; what the code's answer says of the definition's report.
 use Rattle.std.proofs.Common.{◌≡◌, ℕ, ◌+◌, ◌≤◌, List, length, take, sym, ap, ◌∙◌, arith, length-take}
 use native.Mathlib.Nat.{min-le_right}
-use mathlib.Core.Option.{none}
+use Rattle.std.specs.Prelude.{None}
 use Rattle.run.specs.declared.campaign_file.PagePlace.{PagePlace}
 use Rattle.run.specs.declared.campaign_file.Parsed.{Parsed}
 use Rattle.run.specs.declared.campaign_file.Campaign.{Campaign}
@@ -56,7 +56,7 @@ module _ (bytes : List ℕ) {x : Campaign} (is_answer : x ≡ campaign_answer (c
   pub file_within : {c : Parsed} → x ≡ Campaign.Read c → PagesInFile bytes c
   file_within {c} g = let t = file_read (campaign_of bytes 0) is_answer g in campaign_within bytes c t.next t.is
 
-  pub report_read : {c : Parsed} → x ≡ Campaign.Read c → report_of bytes ≡ answer_line (call_of (settings_in c.asked) none c.cpu (pages_in bytes c)).answer
+  pub report_read : {c : Parsed} → x ≡ Campaign.Read c → report_of bytes ≡ answer_line (call_of (settings_in c.asked) None c.cpu (pages_in bytes c)).answer
   unfolding report_of
   report_read g = rw (file_read (campaign_of bytes 0) is_answer g).is
 

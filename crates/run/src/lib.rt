@@ -1,21 +1,21 @@
 // The run call.
 #![tactic(auto)]
 
-ghost use Rattle.std.specs.Prelude.{◌≡◌, ◌<◌, ◌≤◌, true, false};
-ghost use Rattle.std.proofs.Math.Option.{none, some};
+ghost use Rattle.std.specs.Prelude.{◌≡◌, ◌+◌, ◌<◌, ◌≤◌, true, false};
+ghost use Rattle.pages.specs.Pages.{pages};
 ghost use Rattle.pages.specs.Contract.{at_entry, as_shared};
 ghost use Rattle.execution.specs.Code.Due.{due_of};
 ghost use Rattle.run.specs.Acceptance.{end_number, end_byte, not_accepted};
-ghost use Rattle.run.specs.BusLog.{held_log, free_of, log_full, lent_free};
+ghost use Rattle.run.specs.BusLog.{held_log, free_of, log_full};
 ghost use Rattle.run.specs.Run.{run_of, call_of};
-ghost use Rattle.run.specs.Answers.{CallAnswers};
+ghost use Rattle.run.specs.Answers.{lent_free, CallAnswers};
 ghost use Rattle.run.specs.Code.Leads.{unmoved_of, LeadsIn};
-ghost use Rattle.run.specs.Code.States.{answer_of, states_between, StepsAnswer, LoggedAnswer};
+ghost use Rattle.run.specs.Code.States.{answer_of, states_between, AnswersIn, LoggedIn};
 ghost use Rattle.run.specs.Code.Coming.{NotesComing};
 
 use arithmetic::record::Lh5801;
 use bus::BusLog;
-use execution::{Executed, Inputs, Outcome, Stop};
+use execution::{Executed, Inputs, Opcode, Stop};
 use pages::Memory;
 
 pub mod campaign_file;
@@ -54,8 +54,8 @@ impl End {
             End::Page1Length => 2,
             End::TimerValue => 3,
             End::Limit => 4,
-            End::Step(Stop::UnlistedFirst(_)) => 5,
-            End::Step(Stop::UnlistedFd(_)) => 6,
+            End::Step(Stop::Unlisted(Opcode::First(_))) => 5,
+            End::Step(Stop::Unlisted(Opcode::AfterFd(_))) => 6,
             End::Step(Stop::Halted) => 7,
             End::LogFull => 11,
         }
@@ -66,7 +66,7 @@ impl End {
         ensures { result ≡ end_byte self }
     {
         match self {
-            End::Step(Stop::UnlistedFirst(byte) | Stop::UnlistedFd(byte)) => byte,
+            End::Step(Stop::Unlisted(Opcode::First(byte) | Opcode::AfterFd(byte))) => byte,
             _ => 0,
         }
     }
@@ -120,9 +120,8 @@ fn instructions(cpu: Lh5801, memory: &mut Memory, settings: Settings, done: u32)
     let mut current = execution::reached(cpu);
     let mut steps: u32 = done;
     loop {
-        let executed = execution::instruction(current, memory, settings.inputs);
-        match executed {
-            Executed::Again(next) => {
+        match execution::instruction(current, memory, settings.inputs) {
+            Ok(Executed::Again(next)) => {
                 current = next;
                 steps = steps + 1;
                 if settings.limit <= steps {
@@ -133,14 +132,14 @@ fn instructions(cpu: Lh5801, memory: &mut Memory, settings: Settings, done: u32)
                     };
                 }
             }
-            Executed::Completed(next) => {
+            Ok(Executed::Completed(next)) => {
                 return Led {
                     steps: steps + 1,
                     cpu: next,
                     stop: None,
                 };
             }
-            Executed::Stopped(stop) => {
+            Err(stop) => {
                 // The step that stops is undone whole: timer reached has not moved.
                 if steps == done {
                     return Led {
@@ -165,12 +164,12 @@ fn other_step(cpu: Lh5801, memory: &mut Memory, settings: Settings, done: u32) -
     ensures { LeadsIn settings done cpu memory.entry.now result memory.exit.now }
 {
     match execution::step_cpu(cpu, memory, settings.inputs) {
-        Outcome::Completed(next) => Led {
+        Ok(next) => Led {
             steps: done + 1,
             cpu: next,
             stop: None,
         },
-        Outcome::Stopped(stop) => Led {
+        Err(stop) => Led {
             steps: done,
             cpu,
             stop: Some(stop),
@@ -192,7 +191,7 @@ fn advance(cpu: Lh5801, memory: &mut Memory, settings: Settings, done: u32) -> L
 // Steps up to the limit, or to the first that stops, without a log.
 fn steps_of(cpu: Lh5801, memory: &mut Memory, settings: Settings) -> Answer
     requires { (cpu.tm < 512) × (settings.limit ≤ 1000000) }
-    ensures { StepsAnswer (run_of settings.limit settings.inputs none cpu (at_entry memory)) result memory }
+    ensures { AnswersIn (run_of settings.limit settings.inputs None cpu (at_entry memory)) memory.entry.now result memory.exit.now }
 {
     let first = cpu.ticks;
     let mut current = cpu;
@@ -210,7 +209,7 @@ fn steps_of(cpu: Lh5801, memory: &mut Memory, settings: Settings) -> Answer
 
 // Fewer than seven entries of a log are free, or the used count is beyond it.
 fn log_full(log: &BusLog) -> bool
-    ensures { result ≡ log_full (some (free_of (held_log log.now))) }
+    ensures { result ≡ log_full (Some (free_of (held_log log.now))) }
 {
     let length = log.entries.len();
     length < log.used || length - log.used < 7
@@ -218,7 +217,7 @@ fn log_full(log: &BusLog) -> bool
 
 // Before a step of a call with a log: is the log full (11)? If not, the coming step's accesses are appended, none if it will stop.
 fn note_coming(cpu: Lh5801, memory: &Memory, log: &mut BusLog) -> bool
-    ensures { NotesComing cpu memory log result }
+    ensures { NotesComing cpu memory log.old result log.new }
 {
     if log_full(log) {
         return true;
@@ -243,13 +242,18 @@ fn total(before: Answer, after: Answer) -> Answer
 // The same with a log: it is looked at before each step.
 fn logged_steps(cpu: Lh5801, memory: &mut Memory, log: &mut BusLog, settings: Settings) -> Answer
     requires { (cpu.tm < 512) × (settings.limit ≤ 1000000) }
-    ensures { LoggedAnswer settings cpu memory log result }
+    ensures { LoggedIn (run_of settings.limit settings.inputs (Some (free_of (held_log log.old))) cpu (at_entry memory)) memory.entry.now result memory.exit.now log.old log.new }
 {
     let one = Settings {
         inputs: settings.inputs,
         limit: 1,
     };
-    let mut all = answered(cpu, cpu.ticks, 0, End::AllSteps);
+    let mut all = Answer {
+        end: End::AllSteps,
+        steps: 0,
+        states: 0,
+        cpu,
+    };
     while all.steps < settings.limit {
         // A record of its own is lent to the look: the loop's would stand in memory.
         if note_coming(unmoved(all.cpu, all.cpu), memory, log) {
@@ -268,6 +272,7 @@ fn logged_steps(cpu: Lh5801, memory: &mut Memory, log: &mut BusLog, settings: Se
 }
 
 // Why a call is not accepted, if so: the first of the conditions that holds.
+#[tactic(auto, unfolding(crate::specs::Acceptance::not_accepted))]
 fn not_accepted(cpu: Lh5801, memory: &Memory, settings: Settings) -> Option<End>
     ensures { result ≡ not_accepted settings cpu (as_shared memory) }
 {
@@ -294,11 +299,16 @@ pub fn run(
     log: Option<&mut BusLog>,
     settings: Settings,
 ) -> Answer
-    ensures { CallAnswers settings log.entry cpu page0.old page1.old result page0.new page1.new log.exit }
+    ensures { CallAnswers (call_of settings (lent_free log.entry) cpu (pages page0.old page1.old)) result (pages page0.new page1.new) log.entry log.exit }
 {
     let mut memory = Memory { page0, page1 };
     if let Some(end) = not_accepted(cpu, &memory, settings) {
-        return answered(cpu, cpu.ticks, 0, end);
+        return Answer {
+            end,
+            steps: 0,
+            states: 0,
+            cpu,
+        };
     }
     match log {
         None => steps_of(cpu, &mut memory, settings),

@@ -1,6 +1,5 @@
 // A campaign file, from its bytes to the line that the program prints.
 ghost use Rattle.std.specs.Prelude.{◌≡◌, ◌+◌, ◌≤◌, length};
-ghost use Rattle.std.proofs.Math.Option.{none};
 ghost use Rattle.run.specs.Run.{call_of};
 ghost use Rattle.run.specs.Line.{Printed};
 ghost use Rattle.run.specs.Report.{pages_in, settings_in, answer_line, report_of};
@@ -24,7 +23,7 @@ pub fn settings_of(asked: Asked) -> Settings
 fn file_answer(bytes: &[u8], c: Parsed) -> Answer
     requires page0_len_in_bounds { (c.page0_at + c.page0_len ≤ length bytes.now) × (c.page0_len ≤ 16384) }
     requires page1_len_in_bounds { (c.page1_at + c.page1_len ≤ length bytes.now) × (c.page1_len ≤ 16384) }
-    ensures { result ≡ (call_of (settings_in c.asked) none c.cpu (pages_in bytes.now c)).answer }
+    ensures { result ≡ (call_of (settings_in c.asked) None c.cpu (pages_in bytes.now c)).answer }
 {
     let mut page0 = [0u8; 16384];
     let mut page1 = [0u8; 16384];

@@ -47,10 +47,6 @@ pub record Executing (s : Settings) (done : ℕ) (first : Lh5801) (l : Memory) (
   pub kept : Kept s first l more m n
   pub ready : Ready m
 
--- the states between two counts are the one number of 64 bits that, added to the first, gives the second
-pub states_only : {r first now : ℕ} → r < 2 ^ 64 → first < 2 ^ 64 → (r + first) % 2 ^ 64 ≡ now → r ≡ states_between first now
-states_only h f e = omega arith
-
 pub at_start_lem : (inputs : Inputs) (limit : ℕ) (m : Lh5801) (p : Pages) → m.tm < 512 → Going inputs limit m p 0 m p
 at_start_lem inputs limit m p h =
     record { within = omega arith; begun = h; states = 0; bus = []; reached = start }
@@ -250,10 +246,6 @@ module _ {s : Settings} {first : Lh5801} {l : Memory} {steps : ℕ} {m : Lh5801}
   module _ {r : Led} {o : Memory} (d : LeadsIn s steps m n r o) where
     pub kept_next : Kept s first l r.steps r.cpu o
     kept_next = record { going = led_on g.going d.leads; lent = lent_then g.lent d.lent }
-
-    -- more steps are done, where none stops
-    pub led_open : r.stop ≡ None → steps < r.steps
-    led_open e = subst (AheadIs s.inputs steps s.limit r.steps r.cpu (held o)) e d.leads.ahead
 
     pub led_stop : {x : Stop} → r.stop ≡ Some x → s.inputs.idle ≤ 255 → s.limit ≤ 1_000_000
         → AnswersIn (run_of s.limit s.inputs None first (held l)) l (answer_of (Step x) r.steps (states_between first.ticks r.cpu.ticks) r.cpu) o

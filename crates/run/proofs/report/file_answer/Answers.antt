@@ -6,7 +6,7 @@ use Rattle.run.proofs.report.file_answer.Goals as goal
 pub returns : goal.returns
 unfolding free_in
 returns c =
-    c.run_parts-r.ensures.answer
+    c.run_parts.ensures.answer
     ∙ rw (
       c.settings_of-settings.ensures,
       copied _ _ _ _ c.copy_part.ensures c.requires.page0_len_in_bounds.0 (search rules),

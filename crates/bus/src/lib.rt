@@ -178,7 +178,7 @@ impl BusLog<'_> {
         if let Place::Fixed(page) = place {
             self.bytes(memory, cpu.p, 2);
         }
-        let l = places::locate(places::word_at(cpu, place), cpu.p, memory, place);
+        let l = places::locate(cpu, memory, place);
         self.at(cpu, memory, action, l.addr, l.p);
     }
 

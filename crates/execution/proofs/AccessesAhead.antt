@@ -1,6 +1,5 @@
 -- The accesses that specs/Code/Shapes.antt computes ahead of a step are those that the step makes.
-use Rattle.std.proofs.Common.{◌≡◌, ℕ, ◌+◌, ◌/◌, ◌%◌, ◌<◌, ◌≤◌, Bool, true, false, cond, ◌&&◌, ◌||◌, T, eqb, ltb, List, [], ◌∷◌, ◌++◌, length, sym, refl, ap, ◌∙◌, add-zero, append-nil, arith, ltb→lt, ltb-false, ltb-true, eq-eqb, ne_eqb, eqb-true}
-use Rattle.arithmetic.proofs.Compute.{every, test_at}
+use Rattle.std.proofs.Common.{◌≡◌, ℕ, ◌+◌, ◌/◌, ◌%◌, ◌≤◌, Bool, true, false, cond, ◌&&◌, ◌||◌, eqb, List, [], ◌∷◌, ◌++◌, length, refl, ap, ◌∙◌, add-zero, append-nil, arith, eqb-true}
 use Rattle.arithmetic.specs.declared.record.Lh5801.{Lh5801}
 use Rattle.arithmetic.specs.Record.{with_p, with_s, with_t, with_ir1, with_ir2, with_is_timer_reached}
 use Rattle.arithmetic.specs.Flags.{IE, has_flag}
@@ -13,14 +12,11 @@ use Rattle.pages.specs.Timer.{add_state_of, timer_part_of}
 use Rattle.pages.proofs.Exec.{bind_answer, bind_accesses}
 use Rattle.pages.proofs.Pages.{store_long, stored_long, at_store}
 use Rattle.execution.specs.declared.Inputs.{Inputs}
-use Rattle.execution.specs.declared.places.Register.TheVariants.{X, Y, U}
-use Rattle.execution.specs.declared.places.Page.TheVariants.{Me0, Me1}
 use Rattle.execution.specs.declared.places.Place.{Place}
 use Rattle.execution.specs.declared.places.Place.TheVariants.{InHalf, Pointer, Fixed, InCode}
 use Rattle.execution.specs.declared.instructions.Change.{Change}
 use Rattle.execution.specs.declared.instructions.Change.TheVariants.{Ani, Ori, Adi}
 use Rattle.execution.specs.declared.instructions.Condition.{Condition}
-use Rattle.execution.specs.declared.instructions.Condition.TheVariants.{NoCarry, Carry, NoHalfCarry, HalfCarry, NotZero, Zero, NoOverflow, Overflow, Always}
 use Rattle.execution.specs.declared.instructions.Instruction.{Instruction}
 use Rattle.execution.specs.declared.instructions.Instruction.TheVariants.{Alu, Sta, Memory, Bii, Drr, Drl, Load, Compare, Inc, Dec, IncWord, DecWord, Sin, Sde, Lin, Lde, Branch, Lop, VectorIf, Vector, Jmp, Sjp, Rtn, Rti, LoadS, Tin, Cin, OnA, Sets, PopWord, PushWord, PopA, PushA, ToX, FromX, DropWord, Adr, Off, Hlt, Cdv, Nop}
 use Rattle.execution.specs.declared.instructions.Listed.{Listed}
@@ -30,13 +26,10 @@ use Rattle.execution.specs.declared.Opcode.TheVariants.{First, AfterFd}
 use Rattle.execution.specs.declared.shapes.Action.TheVariants.{Update, Test}
 use Rattle.execution.specs.Places.{locate_of, operand_of}
 use Rattle.execution.specs.Instructions.{operated, alu_of, store_of, sta_of, changed_of, memory_of, bii_of, drr_of, drl_of, load_of, compare_of, store_at_of, load_at_of, sin_of, sde_of, lin_of, lde_of, holds_of, branch_of, lop_of, vector_of, vector_if_of, jmp_of, sjp_of, rtn_of, rti_of, load_sOf, tin_of, cin_of, pop_to_of, push_from_of, execute_of}
-use Rattle.execution.specs.Opcodes.{rows, decoded}
-use Rattle.execution.specs.OpcodesFd.{rows_fd, decoded_fd}
 use Rattle.execution.specs.States.{added_of}
 use Rattle.execution.specs.Step.{StepEnd, did, stopped, instruction, fetched, fetch_of, decoded_by, decoded_step_of, instruction_of, interrupt_of, reached_of, halted_of, powered_of, step_of}
 use Rattle.execution.specs.Completed.{of_completed, completed_accesses}
 use Rattle.execution.specs.Code.Shapes.{opcode_at, after_write, after_push_word, vector_accesses, accept_accesses, changed_by, place_accesses, vector_if_accesses, shape_accesses, operand_shape, store_shape, shape_of, shape_in, shape_by, opcode_accesses, fetched_accesses, instruction_accesses, powered_accesses, step_accesses}
-use Rattle.execution.proofs.Listed.{past_rows}
 use Rattle.execution.proofs.Choices.{cond_both}
 use Rattle.execution.proofs.OpcodeRead.{fetch_answer, fetch_pages}
 use Rattle.execution.proofs.Ways.{moved}

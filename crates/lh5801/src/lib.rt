@@ -10,7 +10,8 @@ ghost use Rattle.run.specs.Run.{call_of, settings};
 ghost use Rattle.lh5801.specs.Words.{taken_of, cpu_of, words_of, word_widths, log_with, Left};
 
 use execution::Inputs;
-use run::{Answer, Log, Settings, record_numbers};
+use bus::BusLog;
+use run::{Answer, Settings, record_numbers};
 
 // Words 0 to 11, each taken at its field's width; of the timer, 65,535 where it is more.
 #[tactic(auto, unfolding(crate::specs::Words::taken_of))]
@@ -51,8 +52,8 @@ fn words_of(r: Answer) -> [u64; 16]
         numbers[9],
         numbers[10],
         numbers[11],
-        u64::from(run::number(r.end)),
-        u64::from(run::byte(r.end)),
+        u64::from(r.end.number()),
+        u64::from(r.end.byte()),
         u64::from(r.steps),
         r.states,
     ]
@@ -80,12 +81,15 @@ pub extern "C" fn lh5801_call(
         inputs: Inputs { keyboard, idle },
         limit,
     };
-    let lent = Log {
-        lent: logged,
+    let mut log = BusLog {
+        entries: log,
         used: log_used,
     };
-    let r = run::run(cpu, page0, page1, log, lent, settings);
-    let answer = r.answer;
+    let answer = if logged {
+        run::run(cpu, page0, page1, Some(&mut log), settings)
+    } else {
+        run::run(cpu, page0, page1, None, settings)
+    };
     *words = words_of(answer);
-    r.used
+    log.used
 }

@@ -10,6 +10,7 @@ ghost use Rattle.pages.specs.Timer.{add_state_of, timer_inc_of, passed_of, timer
 use arithmetic::record::Lh5801;
 
 // The two lent pages as one memory.
+#[derive(Drop)]
 pub struct Memory<'a> {
     pub page0: &'a mut [u8],
     pub page1: &'a mut [u8],

@@ -1,7 +1,6 @@
 -- A file that is read holds its two pages whole; what the code's answer says of the definition's report.
-use Rattle.std.specs.Prelude.{Result, Ok, Err}
+use Rattle.std.specs.Prelude.{Result, Ok, Err, None}
 use Rattle.std.proofs.Common.{◌≡◌, ℕ, ◌+◌, ◌≤◌, List, length, ap, ◌∙◌}
-use mathlib.Core.Option.{none}
 use Rattle.run.specs.declared.campaign_file.PagePlace.{PagePlace}
 use Rattle.run.specs.declared.campaign_file.Parsed.{Parsed}
 use Rattle.run.specs.declared.campaign_file.Refusal.{Refusal}
@@ -40,7 +39,7 @@ module _ (bytes : List ℕ) {x : Result Parsed Refusal} (is_answer : campaign_of
   pub file_within : {c : Parsed} → x ≡ Ok c → PagesInFile bytes c
   file_within {c} g = campaign_within bytes c (length bytes) (is_answer ∙ ap (λ (r : Result Parsed Refusal). field_of r (length bytes)) g)
 
-  pub report_read : {c : Parsed} → x ≡ Ok c → report_of bytes ≡ answer_line (call_of (settings_in c.asked) none c.cpu (pages_in bytes c)).answer
+  pub report_read : {c : Parsed} → x ≡ Ok c → report_of bytes ≡ answer_line (call_of (settings_in c.asked) None c.cpu (pages_in bytes c)).answer
   unfolding report_of
   report_read g = rw (is_answer, g)
 

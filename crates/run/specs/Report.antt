@@ -1,6 +1,5 @@
 -- A campaign file, from its bytes to the line that the program prints (document 01, "Campaign file").
-use Rattle.std.specs.Prelude.{ℕ, List}
-use Rattle.std.proofs.Math.Option.{none}
+use Rattle.std.specs.Prelude.{ℕ, List, None}
 use Rattle.pages.specs.Pages.{Pages, pages}
 use Rattle.execution.specs.Inputs.{of_keyboard}
 use Rattle.run.specs.declared.campaign_file.Asked.{Asked}
@@ -27,7 +26,7 @@ answer_line a = line_of (end_number a.end) a.steps a.states a.cpu
 
 -- a file that is refused runs nothing; a file that is read is one run call without a log
 abbrev pub report_from : List ℕ → Field Parsed → List ℕ
-report_from bytes (read c next) = answer_line (call_of (settings_in c.asked) none c.cpu (pages_in bytes c)).answer
+report_from bytes (read c next) = answer_line (call_of (settings_in c.asked) None c.cpu (pages_in bytes c)).answer
 report_from bytes (refused stop) = refusal_line_of (refusal_number stop) (refusal_offset stop)
 
 unfoldable pub report_of : List ℕ → List ℕ

@@ -1,12 +1,11 @@
 // A campaign file, from its bytes to the line that the program prints.
-ghost use Rattle.std.specs.Prelude.{◌≡◌, ◌+◌, ◌≤◌, length};
-ghost use Rattle.std.proofs.Math.Option.{none};
+ghost use Rattle.std.specs.Prelude.{◌≡◌, ◌+◌, ◌≤◌, length, None};
 ghost use Rattle.run.specs.Run.{call_of};
 ghost use Rattle.run.specs.Line.{Printed};
 ghost use Rattle.run.specs.Report.{pages_in, settings_in, answer_line, report_of};
 
 use crate::campaign_file::{Asked, Parsed};
-use crate::{Answer, Log, Settings, campaign_file, line, parts};
+use crate::{Answer, Settings, campaign_file, line, parts};
 use execution::Inputs;
 
 // What a call is given by what a file asks.
@@ -22,39 +21,32 @@ impl From<Asked> for Settings {
 }
 
 // A file that was read: its run call, without a log.
-#[tactic(auto, using(crate::proofs::Stored::copied), unfolding(crate::specs::BusLog::free_in))]
+#[tactic(auto, using(crate::proofs::Stored::copied))]
 fn file_answer(bytes: &[u8], c: Parsed) -> Answer
     requires page0_len_in_bounds { (c.page0.at + c.page0.len ≤ length bytes.now) × (c.page0.len ≤ 16384) }
     requires page1_len_in_bounds { (c.page1.at + c.page1.len ≤ length bytes.now) × (c.page1.len ≤ 16384) }
-    ensures { result ≡ (call_of (settings_in c.asked) none c.cpu (pages_in bytes.now c)).answer }
+    ensures { result ≡ (call_of (settings_in c.asked) None c.cpu (pages_in bytes.now c)).answer }
 {
     let mut page0 = [0u8; 16384];
     let mut page1 = [0u8; 16384];
     parts::copy_part(bytes, c.page0.at, &mut page0, c.page0.len);
     parts::copy_part(bytes, c.page1.at, &mut page1, c.page1.len);
-    let mut entries = [0u32; 1];
-    let log = Log {
-        lent: false,
-        used: 0,
-    };
-    let r = parts::run_parts(
+    parts::run_parts(
         c.cpu,
         &mut page0,
         c.page0.len,
         &mut page1,
         c.page1.len,
-        &mut entries,
-        log,
+        None,
         Settings::from(c.asked),
-    );
-    r.answer
+    )
 }
 
 // The line of a call.
 pub fn answer_line(out: &mut [u8; 200], a: Answer) -> usize
     ensures { Printed out.old (answer_line a) out.new result }
 {
-    line::line(out, crate::number(a.end), a.steps, a.states, a.cpu)
+    line::line(out, a.end.number(), a.steps, a.states, a.cpu)
 }
 
 // The line of a campaign file, at the start of a buffer; its length is returned.

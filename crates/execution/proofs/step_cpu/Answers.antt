@@ -1,11 +1,11 @@
 use Rattle.std.proofs.Common.{◌∙◌}
-use Rattle.execution.proofs.Order.{reached_tm, reached_bf, reached_clear, reached_due, step_reached, step_off}
+use Rattle.execution.proofs.Order.{reached_bf, reached_clear, reached_due, step_reached, step_off}
 use Rattle.execution.proofs.step_cpu.Goals as goal
 
 pub powered_step-requires : goal.powered_step-requires
 powered_step-requires c =
     rw c.reached.ensures
-    (rw reached_tm c.requires.0, reached_bf _ ∙ c.if-cpu.true, reached_clear _, reached_due _ ∙ c.requires.1)
+    (reached_bf _ ∙ c.if-cpu.true, reached_clear _, reached_due _ ∙ c.requires)
 
 pub returns-then-cpu : goal.returns-then-cpu
 returns-then-cpu c =

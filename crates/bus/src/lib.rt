@@ -22,6 +22,7 @@ use pages::Memory;
 pub mod tables;
 
 // Document 02's bus log: a lent list of entries, and how many of them are used.
+#[derive(Drop)]
 pub struct BusLog<'a> {
     pub entries: &'a mut [u32],
     pub used: usize,

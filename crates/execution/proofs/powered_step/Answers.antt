@@ -3,9 +3,6 @@ use Rattle.execution.proofs.Order.{acknowledged_tm, step_held, step_interrupt}
 use Rattle.execution.proofs.DueAgain.{accept_small}
 use Rattle.execution.proofs.powered_step.Goals as goal
 
-pub timer_part-requires : goal.timer_part-requires
-timer_part-requires c = c.requires.0
-
 pub returns-then-cpu : goal.returns-then-cpu
 returns-then-cpu c =
     step_held _ _ c.requires.1 c.requires.2 c.if-cpu.true c.timer_part.ensures

@@ -10,7 +10,6 @@ pub mod StepKeeps
 pub mod OpcodeRead
 pub mod StepStates
 pub mod Accesses
-pub mod Shapes
 pub mod AccessesAhead
 pub mod StopsClean
 pub mod Tests

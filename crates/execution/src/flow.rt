@@ -7,7 +7,7 @@ use crate::instructions::{Condition, Direction};
 use arithmetic::record::Lh5801;
 use pages::Memory;
 
-fn holds(t: u8, c: Condition) -> bool
+pub fn holds(t: u8, c: Condition) -> bool
     ensures { result ≡ holds_of t c }
 {
     match c {

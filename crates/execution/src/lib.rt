@@ -22,6 +22,7 @@ pub mod opcodes;
 pub mod opcodes_fd;
 pub mod operations;
 pub mod places;
+pub mod shapes;
 pub mod transfers;
 
 // What a step is given besides the record and the pages.
@@ -114,7 +115,7 @@ pub fn execute(cpu: Lh5801, memory: &mut Memory, inputs: Inputs, i: Instruction)
     }
 }
 
-fn fetch(p: u16, memory: &Memory) -> Code<Opcode>
+pub fn fetch(p: u16, memory: &Memory) -> Code<Opcode>
     ensures { Reads (fetch_of p) memory result }
 {
     let first = memory.cpu_readop(p);
@@ -156,7 +157,7 @@ fn settled(i: Instruction) -> bool
 
 // The step of an instruction that is due: the record after it, and whether an instruction is due again; or the stop of an unlisted byte.
 pub fn instruction(cpu: Lh5801, memory: &mut Memory, inputs: Inputs) -> Result<Executed, Stop>
-    requires { (cpu.tm < 512) × Ready cpu }
+    requires { Ready cpu }
     ensures { Changes (mapped executed_of (step_of cpu inputs)) memory result × DueAgain result }
 {
     let opcode = fetch(cpu.p, memory);
@@ -203,7 +204,7 @@ fn accepted(cpu: Lh5801, memory: &mut Memory) -> Lh5801
 // A step with BF set and timer reached clear in which no instruction is due.
 #[tactic(auto, using(crate::proofs::Order::step_halted, crate::proofs::Order::step_waiting))]
 fn powered_step(cpu: Lh5801, memory: &mut Memory, inputs: Inputs) -> Result<Lh5801, Stop>
-    requires { (cpu.tm < 512) × (cpu.bf ≡ true) × (cpu.is_timer_reached ≡ false) × (due_of cpu ≡ false) }
+    requires { (cpu.bf ≡ true) × (cpu.is_timer_reached ≡ false) × (due_of cpu ≡ false) }
     ensures { Changes (mapped outcome_of (step_of cpu inputs)) memory result }
 {
     if cpu.ir0 {
@@ -230,9 +231,9 @@ pub fn due(cpu: Lh5801) -> bool
 }
 
 // One step in which no instruction is due.
-#[tactic(auto, using(crate::proofs::Order::reached_tm, crate::proofs::Order::reached_bf, crate::proofs::Order::reached_clear, crate::proofs::Order::reached_due, crate::proofs::Order::step_reached, crate::proofs::Order::step_off))]
+#[tactic(auto, using(crate::proofs::Order::reached_bf, crate::proofs::Order::reached_clear, crate::proofs::Order::reached_due, crate::proofs::Order::step_reached, crate::proofs::Order::step_off))]
 pub fn step_cpu(cpu: Lh5801, memory: &mut Memory, inputs: Inputs) -> Result<Lh5801, Stop>
-    requires { (cpu.tm < 512) × (due_of cpu ≡ false) }
+    requires { due_of cpu ≡ false }
     ensures { Changes (mapped outcome_of (step_of cpu inputs)) memory result }
 {
     if cpu.bf {

@@ -1,7 +1,7 @@
 // The entry that a C or Rust program links: one run call.
 #![tactic(auto)]
 
-ghost use Rattle.std.specs.Prelude.{◌≡◌, cond, ltb};
+ghost use Rattle.std.specs.Prelude.{◌≡◌};
 ghost use Rattle.pages.specs.Contract.{at_entry, at_exit};
 ghost use Rattle.execution.specs.Inputs.{inputs_of};
 ghost use Rattle.run.specs.RecordNumbers.{AllWithin};
@@ -10,20 +10,14 @@ ghost use Rattle.run.specs.Run.{call_of, settings};
 ghost use Rattle.lh5801.specs.Words.{taken_of, cpu_of, words_of, word_widths, log_with, Left};
 
 use execution::Inputs;
-use run::{Answer, Log, Settings, record_numbers};
+use bus::BusLog;
+use run::{Answer, Settings, record_numbers};
 
-// A number of at most 16 bits; a larger one counts as the largest of them.
-fn limited(value: u64) -> u64
-    ensures { result ≡ cond (ltb 65535 value) 65535 value }
-{
-    if 65535 < value { 65535 } else { value }
-}
-
-// Words 0 to 11, each taken at its field's width.
+// Words 0 to 11, each taken at its field's width; of the timer, 65,535 where it is more.
+#[tactic(auto, unfolding(crate::specs::Words::taken_of))]
 fn taken(words: &[u64; 16]) -> [u64; 12]
     ensures { result ≡ taken_of words.now }
 {
-    let tm = limited(words[7]);
     [
         words[0] % 256,
         words[1] % 256,
@@ -32,7 +26,7 @@ fn taken(words: &[u64; 16]) -> [u64; 12]
         words[4] % 65536,
         words[5] % 65536,
         words[6] % 65536,
-        tm,
+        words[7].min(65535),
         words[8],
         words[9],
         words[10],
@@ -44,11 +38,7 @@ fn taken(words: &[u64; 16]) -> [u64; 12]
 fn words_of(r: Answer) -> [u64; 16]
     ensures { (result ≡ words_of r) × AllWithin word_widths (words_of r) }
 {
-    let cpu = r.cpu;
-    let end = r.end;
-    let numbers = record_numbers::from_record(cpu);
-    let number = record_numbers::byte_number(run::number(end));
-    let byte = record_numbers::byte_number(run::byte(end));
+    let numbers = record_numbers::from_record(r.cpu);
     [
         numbers[0],
         numbers[1],
@@ -62,9 +52,9 @@ fn words_of(r: Answer) -> [u64; 16]
         numbers[9],
         numbers[10],
         numbers[11],
-        number,
-        byte,
-        r.steps as u64,
+        u64::from(r.end.number()),
+        u64::from(r.end.byte()),
+        u64::from(r.steps),
         r.states,
     ]
 }
@@ -87,20 +77,19 @@ pub extern "C" fn lh5801_call(
 {
     let numbers = taken(words);
     let cpu = record_numbers::record_of(&numbers);
-    let inputs = Inputs {
-        keyboard: keyboard,
-        idle: idle,
-    };
     let settings = Settings {
-        inputs: inputs,
-        limit: limit,
+        inputs: Inputs { keyboard, idle },
+        limit,
     };
-    let lent = Log {
-        lent: logged,
+    let mut log = BusLog {
+        entries: log,
         used: log_used,
     };
-    let r = run::run(cpu, page0, page1, log, lent, settings);
-    let answer = r.answer;
+    let answer = if logged {
+        run::run(cpu, page0, page1, Some(&mut log), settings)
+    } else {
+        run::run(cpu, page0, page1, None, settings)
+    };
     *words = words_of(answer);
-    r.used
+    log.used
 }

@@ -1,6 +1,6 @@
 -- Whether a call is accepted: which condition gives which end.
 use Rattle.std.proofs.Common.{◌≡◌, ℕ, ◌<◌, ◌≤◌, cond, ◌||◌, eqb, ltb, length, inl, inr, ⊎_elim, arith, le-ltb, lt-ltb, eq-eqb, ne_eqb}
-use mathlib.Core.Option.{Option, none, some}
+use Rattle.std.specs.Prelude.{Option, None, Some}
 use native.Mathlib.Decide.{dec_lt, ℕ_discrete}
 use Rattle.arithmetic.specs.declared.record.Lh5801.{Lh5801}
 use Rattle.pages.specs.Pages.{Pages}
@@ -39,37 +39,51 @@ module _ (s : Settings) (m : Lh5801) (p : Pages) where
       go (no a) (no b) (no c) (no d) (yes e) = limit a b c (inr e)
       go (no a) (no b) (no c) (no d) (no e) = accepted (record { page0 = a; page1 = b; timer = c; limit = ⊎_elim d e })
 
-  pub acceptance_page0 : Page0TooLong p → not_accepted s m p ≡ some Page0Length
+  pub acceptance_page0 : Page0TooLong p → not_accepted s m p ≡ Some Page0Length
   unfolding not_accepted
   acceptance_page0 h = rw (lt-ltb 65_536 (length p.page0) h)
 
-  pub acceptance_page1 : ¬ Page0TooLong p → Page1TooLong p → not_accepted s m p ≡ some Page1Length
+  pub acceptance_page1 : ¬ Page0TooLong p → Page1TooLong p → not_accepted s m p ≡ Some Page1Length
   unfolding not_accepted
   acceptance_page1 a h = rw (le-ltb 65_536 (length p.page0) (omega arith), lt-ltb 65_536 (length p.page1) h)
 
-  pub acceptance_timer : ¬ Page0TooLong p → ¬ Page1TooLong p → TimerTooLarge m → not_accepted s m p ≡ some TimerValue
+  pub acceptance_timer : ¬ Page0TooLong p → ¬ Page1TooLong p → TimerTooLarge m → not_accepted s m p ≡ Some TimerValue
   unfolding not_accepted
   acceptance_timer a b h =
       rw (le-ltb 65_536 (length p.page0) (omega arith), le-ltb 65_536 (length p.page1) (omega arith), lt-ltb 511 m.tm h)
 
   -- the first three conditions do not hold
   past_three : ¬ Page0TooLong p → ¬ Page1TooLong p → ¬ TimerTooLarge m
-      → not_accepted s m p ≡ cond (eqb s.limit 0 || ltb 1_000_000 s.limit) (some Limit) none
+      → not_accepted s m p ≡ cond (eqb s.limit 0 || ltb 1_000_000 s.limit) (Some Limit) None
   unfolding not_accepted
   past_three a b c =
       rw (le-ltb 65_536 (length p.page0) (omega arith), le-ltb 65_536 (length p.page1) (omega arith), le-ltb 511 m.tm (omega arith))
 
-  pub acceptance_limit : ¬ Page0TooLong p → ¬ Page1TooLong p → ¬ TimerTooLarge m → LimitOut s → not_accepted s m p ≡ some Limit
+  pub acceptance_limit : ¬ Page0TooLong p → ¬ Page1TooLong p → ¬ TimerTooLarge m → LimitOut s → not_accepted s m p ≡ Some Limit
   acceptance_limit a b c (inl h) = rw (past_three a b c, eq-eqb s.limit 0 h)
   acceptance_limit a b c (inr h) = rw (past_three a b c, ne_eqb s.limit 0 (λ e. omega arith), lt-ltb 1_000_000 s.limit h)
 
-  pub acceptance_accepted : Accepted s m p → not_accepted s m p ≡ none
+  pub acceptance_accepted : Accepted s m p → not_accepted s m p ≡ None
   acceptance_accepted h =
       rw (
         past_three h.page0 h.page1 h.timer,
         ne_eqb s.limit 0 (λ e. h.limit (inl e)),
         le-ltb 1_000_000 s.limit (limit_most h),
       )
+
+  -- and the other way round
+  pub accepted_by : not_accepted s m p ≡ None → Accepted s m p
+  accepted_by e = go acceptance_case
+    where
+      never : {x : End} → not_accepted s m p ≡ Some x → Accepted s m p
+      never f = absurd (let z : ◌≡◌ {A = ℕ} 0 1 = cc in omega arith)
+
+      go : Acceptance → Accepted s m p
+      go (page0 a) = never (acceptance_page0 a)
+      go (page1 a b) = never (acceptance_page1 a b)
+      go (timer a b c) = never (acceptance_timer a b c)
+      go (limit a b c d) = never (acceptance_limit a b c d)
+      go (accepted h) = h
 
 -- what a call does, with so many free entries or without a log
 module _ (s : Settings) (free : Option ℕ) (m : Lh5801) (p : Pages) where
@@ -79,7 +93,7 @@ module _ (s : Settings) (free : Option ℕ) (m : Lh5801) (p : Pages) where
   call_run h = rw (acceptance_accepted s m p h)
 
   -- a refused call does nothing
-  pub call_end : {e : End} → not_accepted s m p ≡ some e → call_of s free m p ≡ no_step e m p
+  pub call_end : {e : End} → not_accepted s m p ≡ Some e → call_of s free m p ≡ no_step e m p
   unfolding call_of call_unless
   call_end h = rw h
 

@@ -1,6 +1,6 @@
 -- The accesses of steps and of calls are those expected in specs/AccessOrders.antt, by computation; and what of them is read before it is written.
 use Rattle.std.proofs.Common.{◌≡◌, ℕ, suc, true, false, [], ◌∷◌, ◌++◌, map, refl}
-use mathlib.Core.Option.{none}
+use Rattle.std.specs.Prelude.{None}
 use Rattle.arithmetic.specs.declared.record.Lh5801.{Lh5801}
 use Rattle.execution.specs.declared.Inputs.{Inputs}
 use Rattle.arithmetic.specs.Record.{with_a, with_t, with_x, with_y, with_u, with_s, with_p, with_is_halted, with_bf, with_ir0, with_ir1, with_ir2, with_is_timer_reached, with_timer_state, with_ticks}
@@ -71,7 +71,7 @@ pushed_vector_first p h e f = rw (h, e, f)
 
 -- with any limit from 2 on, the accesses are those of the completed step and then the two reads of the step that stops with 6
 pub stopping_step_reads : (n : ℕ)
-    → accesses_of (suc (suc n)) pressed none start_record two_steps ≡ (stepped pressed start_record two_steps).accesses ++ (read_of 0x01 0xFD ∷ read_of 0x02 0x00 ∷ [])
+    → accesses_of (suc (suc n)) pressed None start_record two_steps ≡ (stepped pressed start_record two_steps).accesses ++ (read_of 0x01 0xFD ∷ read_of 0x02 0x00 ∷ [])
 unfolding accesses_of accesses_after stepped at inside stored set_byte store
 stopping_step_reads n = refl
 

@@ -1,86 +1,64 @@
--- Laws of a log: how many entries are free, what is appended, and when it is full.
-use Rattle.std.proofs.Common.{◌≡◌, ℕ, ◌+◌, ◌-◌, Bool, true, false, cond, List, [], ◌++◌, length, sym, refl, ap, ◌∙◌, arith, length-append}
-use mathlib.Core.Option.{Option, none, some}
+-- Laws of a log: how many entries are free, and what is appended.
+use Rattle.std.proofs.Common.{◌≡◌, ℕ, ◌+◌, ◌-◌, Bool, List, [], ◌++◌, length, sym, refl, ap, ◌∙◌, add-zero, add_assoc, arith, length-append}
+use Rattle.std.specs.Prelude.{Option, None, Some}
 use Rattle.pages.specs.Prog.{Access}
-use Rattle.bus.specs.Log.{noted}
-use Rattle.bus.proofs.Notes.{notes_then, noted_length}
-use Rattle.run.specs.declared.Log.{Log}
-use Rattle.run.specs.BusLog.{free_in, free_after, appended, used_after}
+use denote.Triple.Both.{Both}
+use Rattle.std.specs.Borrow.{MutBor}
+use Rattle.bus.specs.declared.BusLog.{BusLog}
+use Rattle.bus.specs.Code.Notes.{Appends}
+use Rattle.bus.proofs.Notes.{noted_append, noted_length}
+use Rattle.run.specs.BusLog.{Log, log_of, held_log, free_of, free_in, free_after, appended}
+use Rattle.run.specs.CutLog.{left_after}
+use Rattle.run.specs.Answers.{Logged}
 
 -- no access, and accesses after accesses
 pub after_none : (free : Option ℕ) → free_after free [] ≡ free
-after_none none = refl
-after_none (some n) = ap some (omega arith)
+after_none None = refl
+after_none (Some n) = ap Some (omega arith)
 
 pub after_append : (free : Option ℕ) (k l : List Access) → free_after free (k ++ l) ≡ free_after (free_after free k) l
-after_append none k l = refl
-after_append (some n) k l = ap some (omega (arith, length-append k l))
+after_append None k l = refl
+after_append (Some n) k l = ap Some (omega (arith, length-append k l))
 
--- ---- a list of entries and its used count
-
--- without a log nothing changes, and nothing is counted
-module _ (log : Log) (off : log.lent ≡ false) where
-  pub no_log_free : (entries : List ℕ) → free_in log entries ≡ none
-  unfolding free_in
-  no_log_free entries = rw off
-
-  pub no_log_appended : (entries : List ℕ) (k l : List Access) → appended log entries k ≡ appended log entries l
+module _ (log : Log) where
+  pub appended_none : appended log [] ≡ log
   unfolding appended
-  no_log_appended entries k l = rw off
+  appended_none = ap (log_of log.entries) (add-zero log.used)
 
-  pub no_log_used : (k l : List Access) → used_after log k ≡ used_after log l
-  unfolding used_after
-  no_log_used k l = rw off
-
--- appended: none, and some after others
-pub appended_none : (log : Log) (entries : List ℕ) → appended log entries [] ≡ entries
-unfolding appended
-appended_none log entries = either log.lent
-  where
-    either : (b : Bool) → cond b (noted entries log.used []) entries ≡ entries
-    either true = refl
-    either false = refl
-
-pub used_none : (log : Log) → used_after log [] ≡ log.used
-unfolding used_after
-used_none log = either log.lent
-  where
-    either : (b : Bool) → cond b (log.used + 0) log.used ≡ log.used
-    either true = omega arith
-    either false = refl
-
--- a list keeps its length, log or not
-pub appended_length : (log : Log) (entries : List ℕ) (l : List Access) → length (appended log entries l) ≡ length entries
-unfolding appended
-appended_length log entries l = either log.lent
-  where
-    either : (b : Bool) → length (cond b (noted entries log.used l) entries) ≡ length entries
-    either true = noted_length entries log.used l
-    either false = refl
-
--- with a log: how many entries are free, and what stands in the list after accesses
-module _ (log : Log) (on : log.lent ≡ true) where
-  pub log_free : (entries : List ℕ) → free_in log entries ≡ some (length entries - log.used)
-  unfolding free_in
-  log_free entries = rw on
-
-  pub log_used : (l : List Access) → used_after log l ≡ log.used + length l
-  unfolding used_after
-  log_used l = rw on
-
-  pub log_appended : (entries : List ℕ) (l : List Access) → appended log entries l ≡ noted entries log.used l
+  pub appended_then : (k l : List Access) → appended (appended log k) l ≡ appended log (k ++ l)
   unfolding appended
-  log_appended entries l = rw on
+  appended_then k l = rw (noted_append log.entries log.used k l, length-append k l, add_assoc) refl
 
-  -- the free ones are those that are left
-  pub log_left : (entries : List ℕ) (l : List Access) → some (length (appended log entries l) - used_after log l) ≡ free_after (free_in log entries) l
-  log_left entries l = rw (appended_length log entries l, log_used l, log_free entries) (ap some (omega arith))
+  -- the used count goes on, the list keeps its length, and the free entries are those that are left
+  pub log_used : (l : List Access) → (appended log l).used ≡ log.used + length l
+  unfolding appended
+  log_used l = refl
 
-  -- the entries of further accesses, noted from the used count on
-  pub log_then : (entries : List ℕ) (k l : List Access) {before after : List ℕ} {used next : ℕ}
-      → before ≡ appended log entries k → used ≡ used_after log k
-      → (after ≡ noted before used l) × (next ≡ used + length l)
-      → (after ≡ appended log entries (k ++ l)) × (next ≡ used_after log (k ++ l))
-  log_then entries k l p e q =
-      let n = notes_then k l entries log.used (p ∙ log_appended entries k, e ∙ log_used k) q in
-      (n.0 ∙ sym (log_appended entries (k ++ l)), n.1 ∙ sym (log_used (k ++ l)))
+  pub appended_length : (l : List Access) → length (appended log l).entries ≡ length log.entries
+  unfolding appended
+  appended_length l = noted_length log.entries log.used l
+
+  pub appended_free : (l : List Access) → Some (free_of (appended log l)) ≡ free_after (Some (free_of log)) l
+  appended_free l = ap Some (omega (arith, appended_length l, log_used l))
+
+-- the same of a log that may be lent
+pub free_left : (log : Option Log) (l : List Access) → free_in (left_after log l) ≡ free_after (free_in log) l
+unfolding free_in
+free_left None l = refl
+free_left (Some log) l = appended_free log l
+
+pub left_then : (log : Option Log) (k l : List Access) → left_after (left_after log k) l ≡ left_after log (k ++ l)
+left_then None k l = refl
+left_then (Some log) k l = ap Some (appended_then log k l)
+
+-- a log that is lent: no access, what was appended, and what more is
+pub logged_none : {log : BusLog} → Logged [] log log
+logged_none {log} = record { log = sym (appended_none (held_log log)); lent = refl }
+
+pub logged_by : {l : List Access} (log : Both (MutBor BusLog) (MutBor BusLog)) → Appends l log → Logged l log.entry.now log.exit.now
+unfolding appended
+logged_by log a = record { log = rw (a.entries, a.used) refl; lent = a.lent }
+
+pub logged_then : {k l : List Access} {before now after : BusLog} → Logged k before now → Logged l now after → Logged (k ++ l) before after
+logged_then {k} {l} {before} a b =
+    record { log = b.log ∙ ap (λ x. appended x l) a.log ∙ appended_then (held_log before) k l; lent = b.lent ∙ a.lent }

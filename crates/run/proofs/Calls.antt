@@ -1,13 +1,14 @@
 -- Every run call: its pages, its steps, its stops and its states.
 use Rattle.std.proofs.Common.{◌≡◌, ℕ, ◌*◌, ◌<◌, ◌≤◌, ◌↔◌, List, sym, refl, ap, ◌∙◌, arith}
-use mathlib.Core.Option.{Option}
+use Rattle.std.specs.Prelude.{Option}
 use Rattle.arithmetic.specs.declared.record.Lh5801.{Lh5801}
 use Rattle.execution.specs.declared.Inputs.{Inputs}
 use Rattle.pages.specs.Pages.{Pages}
 use Rattle.pages.specs.Prog.{Access}
 use Rattle.pages.specs.Written.{Written}
 use Rattle.execution.specs.declared.Stop.{Stop}
-use Rattle.execution.specs.declared.Stop.TheVariants.{UnlistedFirst, UnlistedFd, Halted}
+use Rattle.execution.specs.declared.Opcode.TheVariants.{First, AfterFd}
+use Rattle.execution.specs.declared.Stop.TheVariants.{Unlisted, Halted}
 use Rattle.execution.specs.Stops.{stop_number, stop_byte}
 use Rattle.execution.proofs.Stops.{stop_least, stop_most, stop_same}
 use Rattle.execution.specs.Step.{stopped}
@@ -227,12 +228,12 @@ module _ (s : Settings) (free : Option ℕ) (m : Lh5801) (p : Pages) where
   pub number_5 : (b : ℕ)
       → ((call_number s free m p ≡ 5) × (call_byte s free m p ≡ b))
       ↔ (Accepted s m p × ComesTo s.inputs free s.limit m p (λ f k q. NotFull f × FirstUnlisted k q b))
-  number_5 b = stop_where (UnlistedFirst b) (λ k q. stops_5 k s.inputs q b)
+  number_5 b = stop_where (Unlisted (First b)) (λ k q. stops_5 k s.inputs q b)
 
   pub number_6 : (b : ℕ)
       → ((call_number s free m p ≡ 6) × (call_byte s free m p ≡ b))
       ↔ (Accepted s m p × ComesTo s.inputs free s.limit m p (λ f k q. NotFull f × SecondUnlisted k q b))
-  number_6 b = stop_where (UnlistedFd b) (λ k q. stops_6 k s.inputs q b)
+  number_6 b = stop_where (Unlisted (AfterFd b)) (λ k q. stops_6 k s.inputs q b)
 
   pub number_7 : (call_number s free m p ≡ 7)
       ↔ (Accepted s m p × ComesTo s.inputs free s.limit m p (λ f k q. NotFull f × HaltedStop s.inputs k))

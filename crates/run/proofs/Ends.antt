@@ -1,6 +1,6 @@
 -- How the steps of a call end: what they reach, and whether the log is full before the next step or the next step stops.
 use Rattle.std.proofs.Common.{◌≡◌, ℕ, zero, suc, ◌+◌, ◌*◌, ◌%◌, ◌^◌, ◌<◌, ◌≤◌, List, [], ◌++◌, refl, ap, append_assoc, append-nil, le_of_suc-le-suc, not-suc-le-zero, add-zero, add_assoc, suc-add, zero-add, arith}
-use mathlib.Core.Option.{Option, none}
+use Rattle.std.specs.Prelude.{Option, None}
 use Rattle.arithmetic.specs.declared.record.Lh5801.{Lh5801}
 use Rattle.execution.specs.declared.Inputs.{Inputs}
 use Rattle.pages.specs.Pages.{Pages}
@@ -135,7 +135,7 @@ reaches_nothing z (next f e r) = absurd (omega arith)
 pub reaches_logged : {inputs : Inputs} {free : Option ℕ} {j : ℕ} {m k : Lh5801} {p q : Pages} {t : ℕ} {l : List Access}
     → NotFull free
     → j ≤ 1
-    → Reaches inputs none j m p k q t l
+    → Reaches inputs None j m p k q t l
     → Reaches inputs free j m p k q t l
 reaches_logged f h start = start
 reaches_logged f h (next g e r) = next f e (reaches_nothing (omega arith) r)

@@ -8,6 +8,7 @@ pub mod Demand3
 pub mod CutLog
 pub mod Loop
 pub mod LoggedSteps
+pub mod Lent
 pub mod RecordNumbers
 pub mod CampaignFile
 pub mod PrintedLine

@@ -1,6 +1,6 @@
 -- Halted steps, and a park from HLT to the timer's entry, are those of specs/Waiting.antt: by computation.
 use Rattle.std.proofs.Common.{◌≡◌, map, refl}
-use mathlib.Core.Option.{none}
+use Rattle.std.specs.Prelude.{None}
 use Rattle.arithmetic.specs.Record.{with_tm, with_step_previous_state}
 use Rattle.pages.specs.Pages.{at, inside, stored, set_byte, store}
 use Rattle.pages.specs.Timer.{shift_of, timer_inc_of}
@@ -16,6 +16,6 @@ unfolding halted_cases stepped with_tm with_step_previous_state shift_of timer_i
 halted_steps_hold = refl
 
 -- one park: from HLT, with IE set and TM not 0, through nothing but waiting, to the timer's entry
-pub timer_wakes : call_of (settings (inputs_of 0 20) 7) none park_record (park_pages 0x00 0x00 0x00) ≡ park_comes
+pub timer_wakes : call_of (settings (inputs_of 0 20) 7) None park_record (park_pages 0x00 0x00 0x00) ≡ park_comes
 unfolding park_comes writes not_accepted no_step completed onward run_of call_unless call_of stepped with_tm with_step_previous_state shift_of timer_inc_of at inside stored set_byte store
 timer_wakes = refl

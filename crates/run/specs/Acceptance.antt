@@ -1,6 +1,5 @@
 -- Whether a run call is accepted, and the numbers of its ends (document 01, "What a call tells, place by place").
-use Rattle.std.specs.Prelude.{◌≡◌, ℕ, ◌<◌, cond, ◌||◌, ◌⊎◌, length, ◌==◌, nat_lt}
-use Rattle.std.proofs.Math.Option.{Option, none, some}
+use Rattle.std.specs.Prelude.{◌≡◌, ℕ, ◌<◌, cond, ◌||◌, ◌⊎◌, length, ◌==◌, nat_lt, Option, None, Some}
 use Rattle.arithmetic.specs.declared.record.Lh5801.{Lh5801}
 use Rattle.pages.specs.Pages.{Pages}
 use Rattle.execution.specs.Stops.{stop_number, stop_byte}
@@ -51,7 +50,7 @@ pub record Accepted (s : Settings) (m : Lh5801) (p : Pages) : Type 0 where
 -- why a call is refused, if it is: the first of the conditions that holds, in document 01's order
 unfoldable pub not_accepted : Settings → Lh5801 → Pages → Option End
 not_accepted s m p =
-    cond (nat_lt 65_536 (length p.page0)) (some Page0Length)
-    (cond (nat_lt 65_536 (length p.page1)) (some Page1Length)
-    (cond (nat_lt 511 m.tm) (some TimerValue)
-    (cond (s.limit == 0 || nat_lt 1_000_000 s.limit) (some Limit) none)))
+    cond (nat_lt 65_536 (length p.page0)) (Some Page0Length)
+    (cond (nat_lt 65_536 (length p.page1)) (Some Page1Length)
+    (cond (nat_lt 511 m.tm) (Some TimerValue)
+    (cond (s.limit == 0 || nat_lt 1_000_000 s.limit) (Some Limit) None)))

@@ -1,7 +1,6 @@
 -- Accesses that are expected: for arms of every access order, for interrupts and for stops, the whole list in its order, with the step's number and
 -- states; and the accesses of calls, with what of them is read before it is written. proofs/AccessOrders.antt has the theorems over them.
-use Rattle.std.specs.Prelude.{ℕ, Bool, true, false, List, [], ◌∷◌, ◌++◌, map, length, drop, replicate}
-use Rattle.std.proofs.Math.Option.{none}
+use Rattle.std.specs.Prelude.{ℕ, Bool, true, false, List, [], ◌∷◌, ◌++◌, map, length, drop, replicate, None}
 use Rattle.arithmetic.specs.declared.record.Lh5801.{Lh5801}
 use Rattle.arithmetic.specs.Record.{with_t, with_x, with_u, with_s, with_p, with_is_halted, with_bf, with_ir0, with_ir1, with_ir2, with_is_timer_reached}
 use Rattle.arithmetic.specs.Flags.{CF, IE}
@@ -212,7 +211,7 @@ call_seen_of o p l = record {
 }
 
 abbrev pub call_seen : ℕ → Lh5801 → Pages → CallSeen
-call_seen limit m p = call_seen_of (call_of (settings (of_keyboard 0x77) limit) none m p) p (accesses_of limit (of_keyboard 0x77) none m p)
+call_seen limit m p = call_seen_of (call_of (settings (of_keyboard 0x77) limit) None m p) p (accesses_of limit (of_keyboard 0x77) None m p)
 
 pub record CallCase : Type 0 where
   pub limit : ℕ

@@ -1,7 +1,6 @@
 -- Demand 3 (document 01, "The runs of demand 3"): one statement about a run and a whole list of run calls.
-use Rattle.std.specs.Prelude.{◌≡◌, ℕ, ◌+◌, ◌≤◌, ◌≢◌, List, [], ◌∷◌, map}
+use Rattle.std.specs.Prelude.{◌≡◌, ℕ, ◌+◌, ◌≤◌, ◌≢◌, List, [], ◌∷◌, map, Option}
 use mathlib.Core.List.{flatten, get_last}
-use Rattle.std.proofs.Math.Option.{Option}
 use Rattle.arithmetic.specs.declared.record.Lh5801.{Lh5801}
 use Rattle.execution.specs.declared.Inputs.{Inputs}
 use Rattle.pages.specs.Pages.{Pages, SameLength}

@@ -8,6 +8,7 @@ use Rattle.pages.specs.Pages.{Pages, pages}
 use Rattle.pages.specs.Prog.{Ran}
 use Rattle.pages.specs.Timer.{timer_inc_of}
 use Rattle.execution.specs.Inputs.{of_keyboard}
+use Rattle.execution.specs.declared.Opcode.TheVariants.{First}
 use Rattle.execution.specs.Step.{StepEnd, did, instruction}
 use Rattle.run.specs.Run.{one_step}
 use Rattle.run.specs.RecordNumbers.{record_of}
@@ -59,7 +60,7 @@ code2 opcode byte = pages (opcode ∷ byte ∷ []) []
 
 -- one step that executes a first-page opcode: record and pages before; record, states and pages after
 abbrev pub executes : ℕ → ℕ → Lh5801 → Pages → Lh5801 → ℕ → Pages → MarkedCase
-executes n opcode m p k states q = record { number = n; asked = step m p; expected = ends (did k states (instruction false opcode)) q }
+executes n opcode m p k states q = record { number = n; asked = step m p; expected = ends (did k states (instruction (First opcode))) q }
 
 -- A, T and the byte that an instruction works on
 pub record ByteCase : Type 0 where

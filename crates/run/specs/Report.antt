@@ -1,6 +1,5 @@
 -- A campaign file, from its bytes to the line that the program prints (document 01, "Campaign file").
-use Rattle.std.specs.Prelude.{ℕ, List}
-use Rattle.std.proofs.Math.Option.{none}
+use Rattle.std.specs.Prelude.{ℕ, List, None}
 use Rattle.pages.specs.Pages.{Pages, pages}
 use Rattle.execution.specs.Inputs.{of_keyboard}
 use Rattle.run.specs.declared.campaign_file.Asked.{Asked}
@@ -15,7 +14,7 @@ use Rattle.run.specs.Line.{line_of, refusal_line_of}
 
 -- the two pages that a file holds
 abbrev pub pages_in : List ℕ → Parsed → Pages
-pages_in bytes c = pages (part bytes c.page0_at c.page0_len) (part bytes c.page1_at c.page1_len)
+pages_in bytes c = pages (part bytes c.page0.at c.page0.len) (part bytes c.page1.at c.page1.len)
 
 -- what a call is given by what a file asks: nothing but the keyboard byte and the limit
 abbrev pub settings_in : Asked → Settings
@@ -27,7 +26,7 @@ answer_line a = line_of (end_number a.end) a.steps a.states a.cpu
 
 -- a file that is refused runs nothing; a file that is read is one run call without a log
 abbrev pub report_from : List ℕ → Field Parsed → List ℕ
-report_from bytes (read c next) = answer_line (call_of (settings_in c.asked) none c.cpu (pages_in bytes c)).answer
+report_from bytes (read c next) = answer_line (call_of (settings_in c.asked) None c.cpu (pages_in bytes c)).answer
 report_from bytes (refused stop) = refusal_line_of (refusal_number stop) (refusal_offset stop)
 
 unfoldable pub report_of : List ℕ → List ℕ

@@ -1,6 +1,5 @@
 -- The run call: what it tells, leaves and writes, its accesses, and calls one after another.
-use Rattle.std.specs.Prelude.{◌≡◌, ℕ, zero, suc, ◌+◌, cond, List, [], ◌∷◌, ◌++◌}
-use Rattle.std.proofs.Math.Option.{Option, none, some}
+use Rattle.std.specs.Prelude.{◌≡◌, ℕ, zero, suc, ◌+◌, cond, List, [], ◌∷◌, ◌++◌, Option, None, Some}
 use Rattle.arithmetic.specs.declared.record.Lh5801.{Lh5801}
 use Rattle.execution.specs.declared.Inputs.{Inputs}
 use Rattle.pages.specs.Pages.{Pages}
@@ -70,8 +69,8 @@ accesses_of (suc n) inputs free m p =
 
 -- a call that is refused, and one that is accepted
 unfoldable pub call_unless : Option End → Settings → Option ℕ → Lh5801 → Pages → CallResult
-call_unless (some e) s free m p = no_step e m p
-call_unless none s free m p = run_of s.limit s.inputs free m p
+call_unless (Some e) s free m p = no_step e m p
+call_unless None s free m p = run_of s.limit s.inputs free m p
 
 -- the run call
 unfoldable pub call_of : Settings → Option ℕ → Lh5801 → Pages → CallResult

@@ -1,21 +1,22 @@
 // The run call.
 #![tactic(auto)]
 
-ghost use Rattle.std.specs.Prelude.{◌≡◌, ◌-◌, ◌<◌, ◌≤◌, true, false};
-ghost use Rattle.std.proofs.Math.Option.{none, some};
-ghost use Rattle.pages.specs.Contract.{at_entry, at_exit};
+ghost use Rattle.std.specs.Prelude.{◌≡◌, ◌+◌, ◌<◌, ◌≤◌, true, false};
+ghost use Rattle.pages.specs.Pages.{pages};
+ghost use Rattle.pages.specs.Contract.{at_entry, as_shared};
 ghost use Rattle.execution.specs.Code.Due.{due_of};
-ghost use Rattle.run.specs.Acceptance.{end_number, end_byte};
+ghost use Rattle.run.specs.Acceptance.{end_number, end_byte, not_accepted};
+ghost use Rattle.run.specs.BusLog.{held_log, free_of, log_full};
 ghost use Rattle.run.specs.Run.{run_of, call_of};
-ghost use Rattle.run.specs.declared.Ahead.TheVariants.{Open, Stops};
-ghost use Rattle.run.specs.Code.Leads.{led, unmoved_of, Leads};
-ghost use Rattle.run.specs.BusLog.{free_in, log_full};
-ghost use Rattle.run.specs.Answers.{Answers, LogAnswers};
-ghost use Rattle.run.specs.Code.States.{answer_of, logged_of, states_between};
+ghost use Rattle.run.specs.Answers.{lent_free, CallAnswers};
+ghost use Rattle.run.specs.Code.Leads.{unmoved_of, LeadsIn};
+ghost use Rattle.run.specs.Code.States.{answer_of, states_between, AnswersIn, LoggedIn};
 ghost use Rattle.run.specs.Code.Coming.{NotesComing};
 
 use arithmetic::record::Lh5801;
-use execution::{Executed, Inputs, Outcome};
+use bus::BusLog;
+use execution::{Executed, Inputs, Opcode, Stop};
+use pages::Memory;
 
 pub mod campaign_file;
 pub mod line;
@@ -23,18 +24,11 @@ pub mod parts;
 pub mod record_numbers;
 pub mod report;
 
-// What a call is given besides the record and the pages.
+// What a call is given besides the record, the pages and the log.
 #[derive(Clone, Copy)]
 pub struct Settings {
     pub inputs: Inputs,
     pub limit: u32,
-}
-
-// Document 02, F-2: is the list of entries that a call gets lent as a log, and how many of them are used?
-#[derive(Clone, Copy)]
-pub struct Log {
-    pub lent: bool,
-    pub used: usize,
 }
 
 // Why a call ended: all its steps done, not accepted, the log full before a step, or a step's stop.
@@ -46,7 +40,36 @@ pub enum End {
     TimerValue,
     Limit,
     LogFull,
-    Step(execution::Stop),
+    Step(Stop),
+}
+
+impl End {
+    // Document 01's number of a call's end.
+    pub fn number(self) -> u8
+        ensures { result ≡ end_number self }
+    {
+        match self {
+            End::AllSteps => 0,
+            End::Page0Length => 1,
+            End::Page1Length => 2,
+            End::TimerValue => 3,
+            End::Limit => 4,
+            End::Step(Stop::Unlisted(Opcode::First(_))) => 5,
+            End::Step(Stop::Unlisted(Opcode::AfterFd(_))) => 6,
+            End::Step(Stop::Halted) => 7,
+            End::LogFull => 11,
+        }
+    }
+
+    // Document 01's byte of a call's end.
+    pub fn byte(self) -> u8
+        ensures { result ≡ end_byte self }
+    {
+        match self {
+            End::Step(Stop::Unlisted(Opcode::First(byte) | Opcode::AfterFd(byte))) => byte,
+            _ => 0,
+        }
+    }
 }
 
 // What a call returns.
@@ -58,61 +81,26 @@ pub struct Answer {
     pub cpu: Lh5801,
 }
 
-// What a call with a list of entries returns: its answer, and how many entries are used after it.
-#[derive(Clone, Copy)]
-pub struct Logged {
-    pub answer: Answer,
-    pub used: usize,
-}
-
 // The record after the completed steps; their states are what the ticks moved on by since first.
 fn answered(cpu: Lh5801, first: u64, steps: u32, end: End) -> Answer
     ensures { result ≡ answer_of end steps (states_between first cpu.ticks) cpu }
 {
-    let states = std::num::wrapping_sub_u64(cpu.ticks, first);
+    let states = cpu.ticks.wrapping_sub(first);
     Answer {
-        end: end,
-        steps: steps,
-        states: states,
-        cpu: cpu,
+        end,
+        steps,
+        states,
+        cpu,
     }
 }
 
-// What comes after completed steps: any step, or one that stops.
-#[derive(Clone, Copy)]
-pub enum Ahead {
-    Open,
-    Stops(execution::Stop),
-}
-
-// What a stretch of steps led to: how many of the call are now completed, the record after them, and what comes next.
+// What a stretch of steps led to: how many of the call are now completed, the record after them, and the stop of the next step; where there is none, any
+// step may come.
 #[derive(Clone, Copy)]
 pub struct Led {
     pub steps: u32,
     pub cpu: Lh5801,
-    pub ahead: Ahead,
-}
-
-// So many steps are completed, and any step may come.
-fn open_after(steps: u32, cpu: Lh5801) -> Led
-    ensures { result ≡ led steps cpu Open }
-{
-    Led {
-        steps: steps,
-        cpu: cpu,
-        ahead: Ahead::Open,
-    }
-}
-
-// So many steps are completed, and the next stops.
-fn stops_after(steps: u32, cpu: Lh5801, stop: execution::Stop) -> Led
-    ensures { result ≡ led steps cpu (Stops stop) }
-{
-    Led {
-        steps: steps,
-        cpu: cpu,
-        ahead: Ahead::Stops(stop),
-    }
+    pub stop: Option<Stop>,
 }
 
 // The record before timer reached moved to IR1.
@@ -125,278 +113,205 @@ fn unmoved(moved: Lh5801, before: Lh5801) -> Lh5801
 }
 
 // Instruction after instruction, for as long as nothing else can be due; so many steps were completed before.
-fn instructions(
-    cpu: Lh5801,
-    page0: &mut [u8],
-    page1: &mut [u8],
-    inputs: Inputs,
-    done: u32,
-    limit: u32,
-) -> Led
-    requires { (cpu.tm < 512) × (due_of cpu ≡ true) × (done < limit) }
-    ensures { Leads inputs done limit cpu (at_entry page0 page1) result (at_exit page0 page1) }
+fn instructions(cpu: Lh5801, memory: &mut Memory, settings: Settings, done: u32) -> Led
+    requires { (cpu.tm < 512) × (due_of cpu ≡ true) × (done < settings.limit) }
+    ensures { LeadsIn settings done cpu memory.entry.now result memory.exit.now }
 {
     let mut current = execution::reached(cpu);
     let mut steps: u32 = done;
     loop {
-        let executed = execution::instruction(current, page0, page1, inputs);
-        match executed {
-            Executed::Again(next) => {
+        match execution::instruction(current, memory, settings.inputs) {
+            Ok(Executed::Again(next)) => {
                 current = next;
                 steps = steps + 1;
-                if limit <= steps {
-                    return open_after(steps, current);
+                if settings.limit <= steps {
+                    return Led {
+                        steps,
+                        cpu: current,
+                        stop: None,
+                    };
                 }
             }
-            Executed::Completed(next) => {
-                return open_after(steps + 1, next);
+            Ok(Executed::Completed(next)) => {
+                return Led {
+                    steps: steps + 1,
+                    cpu: next,
+                    stop: None,
+                };
             }
-            Executed::Stopped(stop) => {
+            Err(stop) => {
                 // The step that stops is undone whole: timer reached has not moved.
                 if steps == done {
-                    return stops_after(done, unmoved(current, cpu), stop);
+                    return Led {
+                        steps,
+                        cpu: unmoved(current, cpu),
+                        stop: Some(stop),
+                    };
                 }
-                return stops_after(steps, current, stop);
+                return Led {
+                    steps,
+                    cpu: current,
+                    stop: Some(stop),
+                };
             }
         }
     }
 }
 
 // One step in which no instruction is due; so many were completed before.
-fn other_step(
-    cpu: Lh5801,
-    page0: &mut [u8],
-    page1: &mut [u8],
-    inputs: Inputs,
-    done: u32,
-    limit: u32,
-) -> Led
-    requires { (cpu.tm < 512) × (due_of cpu ≡ false) × (done < limit) }
-    ensures { Leads inputs done limit cpu (at_entry page0 page1) result (at_exit page0 page1) }
+fn other_step(cpu: Lh5801, memory: &mut Memory, settings: Settings, done: u32) -> Led
+    requires { (cpu.tm < 512) × (due_of cpu ≡ false) × (done < settings.limit) }
+    ensures { LeadsIn settings done cpu memory.entry.now result memory.exit.now }
 {
-    let outcome = execution::step_cpu(cpu, page0, page1, inputs);
-    match outcome {
-        Outcome::Completed(next) => open_after(done + 1, next),
-        Outcome::Stopped(stop) => stops_after(done, cpu, stop),
+    match execution::step_cpu(cpu, memory, settings.inputs) {
+        Ok(next) => Led {
+            steps: done + 1,
+            cpu: next,
+            stop: None,
+        },
+        Err(stop) => Led {
+            steps: done,
+            cpu,
+            stop: Some(stop),
+        },
     }
 }
 
 // The next steps: instructions for as long as they are due, or one step of another kind; so many were completed before.
-fn advance(
-    cpu: Lh5801,
-    page0: &mut [u8],
-    page1: &mut [u8],
-    inputs: Inputs,
-    done: u32,
-    limit: u32,
-) -> Led
-    requires { (cpu.tm < 512) × (done < limit) }
-    ensures { Leads inputs done limit cpu (at_entry page0 page1) result (at_exit page0 page1) }
+fn advance(cpu: Lh5801, memory: &mut Memory, settings: Settings, done: u32) -> Led
+    requires { (cpu.tm < 512) × (done < settings.limit) }
+    ensures { LeadsIn settings done cpu memory.entry.now result memory.exit.now }
 {
     if !execution::due(cpu) {
-        return other_step(cpu, page0, page1, inputs, done, limit);
+        return other_step(cpu, memory, settings, done);
     }
-    instructions(cpu, page0, page1, inputs, done, limit)
+    instructions(cpu, memory, settings, done)
 }
 
 // Steps up to the limit, or to the first that stops, without a log.
-fn steps_of(cpu: Lh5801, page0: &mut [u8], page1: &mut [u8], inputs: Inputs, limit: u32) -> Answer
-    requires { (cpu.tm < 512) × (limit ≤ 1000000) }
-    ensures { Answers (run_of limit inputs none cpu (at_entry page0 page1)) result (at_exit page0 page1) }
+fn steps_of(cpu: Lh5801, memory: &mut Memory, settings: Settings) -> Answer
+    requires { (cpu.tm < 512) × (settings.limit ≤ 1000000) }
+    ensures { AnswersIn (run_of settings.limit settings.inputs None cpu (at_entry memory)) memory.entry.now result memory.exit.now }
 {
     let first = cpu.ticks;
     let mut current = cpu;
     let mut steps: u32 = 0;
-    while steps < limit {
-        let led = advance(current, page0, page1, inputs, steps, limit);
+    while steps < settings.limit {
+        let led = advance(current, memory, settings, steps);
         current = led.cpu;
         steps = led.steps;
-        let ahead = led.ahead;
-        match ahead {
-            Ahead::Open => {}
-            Ahead::Stops(stop) => {
-                return answered(current, first, steps, End::Step(stop));
-            }
+        if let Some(stop) = led.stop {
+            return answered(current, first, steps, End::Step(stop));
         }
     }
     answered(current, first, steps, End::AllSteps)
 }
 
 // Fewer than seven entries of a log are free, or the used count is beyond it.
-fn log_full(length: usize, used: usize) -> bool
-    ensures { result ≡ log_full (some (length - used)) }
+fn log_full(log: &BusLog) -> bool
+    ensures { result ≡ log_full (Some (free_of (held_log log.now))) }
 {
-    if length < used {
+    let length = log.entries.len();
+    length < log.used || length - log.used < 7
+}
+
+// Before a step of a call with a log: is the log full (11)? If not, the coming step's accesses are appended, none if it will stop.
+fn note_coming(cpu: Lh5801, memory: &Memory, log: &mut BusLog) -> bool
+    ensures { NotesComing cpu memory log.old result log.new }
+{
+    if log_full(log) {
         return true;
     }
-    length - used < 7
+    bus::note_step(cpu, memory, log);
+    false
 }
 
-// What is seen of the log before a step: that it is full, or how many entries are used with the coming step's.
-#[derive(Clone, Copy)]
-struct Coming {
-    full: bool,
-    used: usize,
-}
-
-// Before a step of a call with a log: 11 is looked for, and the coming step's accesses are noted from the used count on, none if it will stop. This is
-// called from two places, so that the compiler keeps it out of the loops.
-fn note_coming(cpu: Lh5801, page0: &[u8], page1: &[u8], entries: &mut [u32], used: usize) -> Coming
-    ensures { NotesComing cpu page0 page1 entries used result }
+// Steps, and then more of them: counted together, with the end and the record of the later ones.
+fn total(before: Answer, after: Answer) -> Answer
+    requires { (before.steps + after.steps ≤ 1000000) × (before.states + after.states ≤ 255000000) }
+    ensures { result ≡ answer_of after.end (before.steps + after.steps) (before.states + after.states) after.cpu }
 {
-    if log_full(entries.len(), used) {
-        return Coming {
-            full: true,
-            used: used,
-        };
-    }
-    let next = bus::note_step(cpu, page0, page1, entries, used);
-    Coming {
-        full: false,
-        used: next,
+    Answer {
+        end: after.end,
+        steps: before.steps + after.steps,
+        states: before.states + after.states,
+        cpu: after.cpu,
     }
 }
 
-// What the steps so far come to, and how many entries are used.
-fn logged_answer(cpu: Lh5801, steps: u32, states: u64, end: End, used: usize) -> Logged
-    ensures { result ≡ logged_of (answer_of end steps states cpu) used }
+// The same with a log: it is looked at before each step.
+fn logged_steps(cpu: Lh5801, memory: &mut Memory, log: &mut BusLog, settings: Settings) -> Answer
+    requires { (cpu.tm < 512) × (settings.limit ≤ 1000000) }
+    ensures { LoggedIn (run_of settings.limit settings.inputs (Some (free_of (held_log log.old))) cpu (at_entry memory)) memory.entry.now result memory.exit.now log.old log.new }
 {
-    let answer = Answer {
-        end: end,
-        steps: steps,
-        states: states,
-        cpu: cpu,
+    let one = Settings {
+        inputs: settings.inputs,
+        limit: 1,
     };
-    Logged {
-        answer: answer,
-        used: used,
+    let mut all = Answer {
+        end: End::AllSteps,
+        steps: 0,
+        states: 0,
+        cpu,
+    };
+    while all.steps < settings.limit {
+        // A record of its own is lent to the look: the loop's would stand in memory.
+        if note_coming(unmoved(all.cpu, all.cpu), memory, log) {
+            return Answer {
+                end: End::LogFull,
+                ..all
+            };
+        }
+        let step = steps_of(all.cpu, memory, one);
+        all = total(all, step);
+        if step.steps == 0 {
+            return all;
+        }
     }
+    all
 }
 
-// The given record, and no step.
-fn refused(cpu: Lh5801, end: End, used: usize) -> Logged
-    ensures { result ≡ logged_of (answer_of end 0 0 cpu) used }
+// Why a call is not accepted, if so: the first of the conditions that holds.
+#[tactic(auto, unfolding(crate::specs::Acceptance::not_accepted))]
+fn not_accepted(cpu: Lh5801, memory: &Memory, settings: Settings) -> Option<End>
+    ensures { result ≡ not_accepted settings cpu (as_shared memory) }
 {
-    logged_answer(cpu, 0, 0, end, used)
+    if 65536 < memory.page0.len() {
+        return Some(End::Page0Length);
+    }
+    if 65536 < memory.page1.len() {
+        return Some(End::Page1Length);
+    }
+    if 511 < cpu.tm {
+        return Some(End::TimerValue);
+    }
+    if settings.limit == 0 || 1000000 < settings.limit {
+        return Some(End::Limit);
+    }
+    None
 }
 
-// The steps of a call that may have a log, round after round, up to the limit or to the first that stops. Without a log a round is all of them; with
-// one it is one step, and the log is looked at before it. That look gets a record of its own (`seen`): handed on itself, the loop's would stand in
-// memory.
-fn steps_with_log(
-    cpu: Lh5801,
-    page0: &mut [u8],
-    page1: &mut [u8],
-    entries: &mut [u32],
-    log: Log,
-    inputs: Inputs,
-    limit: u32,
-) -> Logged
-    requires { (cpu.tm < 512) × (0 < limit) × (limit ≤ 1000000) }
-    ensures { LogAnswers (run_of limit inputs (free_in log entries.old) cpu (at_entry page0 page1)) log entries.old entries.new result (at_exit page0 page1) }
-{
-    let mut current = cpu;
-    let mut steps: u32 = 0;
-    let mut states: u64 = 0;
-    let mut used = log.used;
-    let mut until = limit;
-    if log.lent {
-        let seen = unmoved(cpu, cpu);
-        let coming = note_coming(seen, page0, page1, entries, used);
-        if coming.full {
-            return refused(cpu, End::LogFull, used);
-        }
-        used = coming.used;
-        until = 1;
-    }
-    loop {
-        let part = steps_of(current, page0, page1, inputs, until);
-        current = part.cpu;
-        steps = steps + part.steps;
-        states = states + part.states;
-        let end = part.end;
-        if !log.lent {
-            return logged_answer(current, steps, states, end, used);
-        }
-        if part.steps < until {
-            return logged_answer(current, steps, states, end, used);
-        }
-        if limit <= steps {
-            return logged_answer(current, steps, states, end, used);
-        }
-        let seen = unmoved(current, current);
-        let coming = note_coming(seen, page0, page1, entries, used);
-        if coming.full {
-            return logged_answer(current, steps, states, End::LogFull, used);
-        }
-        used = coming.used;
-    }
-}
-
-// The run call: not accepted, or its steps.
+// The run call: not accepted, or its steps. A bus log may be lent to it.
 pub fn run(
     cpu: Lh5801,
     page0: &mut [u8],
     page1: &mut [u8],
-    entries: &mut [u32],
-    log: Log,
+    log: Option<&mut BusLog>,
     settings: Settings,
-) -> Logged
-    ensures { LogAnswers (call_of settings (free_in log entries.old) cpu (at_entry page0 page1)) log entries.old entries.new result (at_exit page0 page1) }
+) -> Answer
+    ensures { CallAnswers (call_of settings (lent_free log.entry) cpu (pages page0.old page1.old)) result (pages page0.new page1.new) log.entry log.exit }
 {
-    if 65536 < page0.len() {
-        return refused(cpu, End::Page0Length, log.used);
+    let mut memory = Memory { page0, page1 };
+    if let Some(end) = not_accepted(cpu, &memory, settings) {
+        return Answer {
+            end,
+            steps: 0,
+            states: 0,
+            cpu,
+        };
     }
-    if 65536 < page1.len() {
-        return refused(cpu, End::Page1Length, log.used);
-    }
-    if 511 < cpu.tm {
-        return refused(cpu, End::TimerValue, log.used);
-    }
-    if settings.limit == 0 {
-        return refused(cpu, End::Limit, log.used);
-    }
-    if 1000000 < settings.limit {
-        return refused(cpu, End::Limit, log.used);
-    }
-    let inputs = settings.inputs;
-    steps_with_log(cpu, page0, page1, entries, log, inputs, settings.limit)
-}
-
-// Document 01's number of a call's end.
-pub fn number(end: End) -> u8
-    ensures { result ≡ end_number end }
-{
-    match end {
-        End::AllSteps => 0,
-        End::Page0Length => 1,
-        End::Page1Length => 2,
-        End::TimerValue => 3,
-        End::Limit => 4,
-        End::LogFull => 11,
-        End::Step(stop) => match stop {
-            execution::Stop::UnlistedFirst(byte) => 5,
-            execution::Stop::UnlistedFd(byte) => 6,
-            execution::Stop::Halted => 7,
-        },
-    }
-}
-
-// Document 01's byte of a call's end.
-pub fn byte(end: End) -> u8
-    ensures { result ≡ end_byte end }
-{
-    match end {
-        End::Step(stop) => match stop {
-            execution::Stop::UnlistedFirst(byte) => byte,
-            execution::Stop::UnlistedFd(byte) => byte,
-            execution::Stop::Halted => 0,
-        },
-        End::AllSteps => 0,
-        End::Page0Length => 0,
-        End::Page1Length => 0,
-        End::TimerValue => 0,
-        End::Limit => 0,
-        End::LogFull => 0,
+    match log {
+        None => steps_of(cpu, &mut memory, settings),
+        Some(log) => logged_steps(cpu, &mut memory, log, settings),
     }
 }

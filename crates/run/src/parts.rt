@@ -2,19 +2,17 @@
 ghost use Rattle.std.specs.Prelude.{◌≡◌, ◌+◌, ◌≤◌, length};
 ghost use Rattle.run.specs.Parts.{part, at_start, RunParts};
 
-use crate::{Log, Logged, Settings};
+use crate::{Answer, Settings};
 use arithmetic::record::Lh5801;
+use bus::BusLog;
 
 // So many bytes, from a place on, to the start of a page.
+#[tactic(auto, using(crate::proofs::Stored::range_part, crate::proofs::Stored::part_length, crate::proofs::Stored::put_before))]
 pub fn copy_part(bytes: &[u8], at: usize, page: &mut [u8], len: usize)
     requires { (at + len ≤ length bytes.now) × (len ≤ length page.old) }
     ensures { page.new ≡ at_start page.old (part bytes.now at len) }
 {
-    let mut i = 0;
-    while i < len {
-        page[i] = bytes[at + i];
-        i += 1;
-    }
+    page[..len].copy_from_slice(&bytes[at..at + len]);
 }
 
 // The run call on the starts of two pages.
@@ -24,19 +22,17 @@ pub fn run_parts(
     len0: usize,
     page1: &mut [u8],
     len1: usize,
-    entries: &mut [u32],
-    log: Log,
+    log: Option<&mut BusLog>,
     settings: Settings,
-) -> Logged
+) -> Answer
     requires { (len0 ≤ length page0.old) × (len1 ≤ length page1.old) }
-    ensures { RunParts settings log cpu page0.old len0 page1.old len1 entries.old result page0.new page1.new entries.new }
+    ensures { RunParts settings log.entry cpu page0.old len0 page1.old len1 result page0.new page1.new log.exit }
 {
-    crate::run(
-        cpu,
-        &mut page0[..len0],
-        &mut page1[..len1],
-        entries,
-        log,
-        settings,
-    )
+    let page0 = &mut page0[..len0];
+    let page1 = &mut page1[..len1];
+    // A log that is handed on unopened is not followed by the proof.
+    match log {
+        None => crate::run(cpu, page0, page1, None, settings),
+        Some(log) => crate::run(cpu, page0, page1, Some(log), settings),
+    }
 }

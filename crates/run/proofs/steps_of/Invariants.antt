@@ -3,7 +3,7 @@ use Rattle.run.proofs.Loop.{Kept}
 use Rattle.run.proofs.steps_of.Given as goal
 
 abbrev pub invariant-loop-steps : goal.invariant-loop-steps
-invariant-loop-steps l = Kept l.inputs l.limit l.fn.cpu l.fn.page0 l.fn.page1 l.steps l.current l.page0 l.page1
+invariant-loop-steps l = Kept l.settings l.fn.cpu l.fn.memory l.steps l.current l.memory
 
 abbrev pub decreases-loop-steps : goal.decreases-loop-steps
-decreases-loop-steps l = l.limit - l.steps
+decreases-loop-steps l = l.settings.limit - l.steps

@@ -1,25 +1,26 @@
 -- How the code is built, and need not be believed (proofs/Loop.antt ties it): what a stretch of a call's steps comes to, which the code takes as one piece.
-use Rattle.std.specs.Prelude.{◌≡◌, ℕ, ◌+◌, ◌<◌, ◌≤◌, List}
-use Rattle.std.proofs.Math.Option.{none}
+use Rattle.std.specs.Prelude.{◌≡◌, ℕ, ◌+◌, ◌<◌, ◌≤◌, List, Option, None, Some}
 use Rattle.arithmetic.specs.declared.record.Lh5801.{Lh5801}
 use Rattle.arithmetic.specs.Record.{with_ir1, with_is_timer_reached}
 use Rattle.execution.specs.declared.Inputs.{Inputs}
+use Rattle.pages.specs.declared.Memory.{Memory}
 use Rattle.pages.specs.Pages.{Pages}
 use Rattle.pages.specs.Prog.{Access}
+use Rattle.pages.specs.Contract.{held, SameLent}
+use Rattle.execution.specs.declared.Stop.{Stop}
 use Rattle.execution.specs.Step.{stopped}
-use Rattle.run.specs.declared.Ahead.{Ahead}
-use Rattle.run.specs.declared.Ahead.TheVariants.{Open, Stops}
+use Rattle.run.specs.declared.Settings.{Settings}
 use Rattle.run.specs.declared.Led.{Led}
 use Rattle.run.specs.Run.{one_step}
 use Rattle.run.specs.Reaches.{Reaches}
 
-abbrev pub led : ℕ → Lh5801 → Ahead → Led
-led steps m a = record { steps = steps; cpu = m; ahead = a }
+abbrev pub led : ℕ → Lh5801 → Option Stop → Led
+led steps m s = record { steps = steps; cpu = m; stop = s }
 
 -- after the stretch: more steps are completed than before it, or there is room for the next and it stops
-abbrev pub AheadIs : Inputs → ℕ → ℕ → ℕ → Lh5801 → Pages → Ahead → Type 0
-AheadIs inputs done limit steps m p Open = done < steps
-AheadIs inputs done limit steps m p (Stops s) = (steps < limit) × ((one_step inputs m p).answer ≡ stopped s)
+abbrev pub AheadIs : Inputs → ℕ → ℕ → ℕ → Lh5801 → Pages → Option Stop → Type 0
+AheadIs inputs done limit steps m p None = done < steps
+AheadIs inputs done limit steps m p (Some s) = (steps < limit) × ((one_step inputs m p).answer ≡ stopped s)
 
 -- from the record m and the pages p, where so many steps of the call are done, completed steps lead to the record in r and to the pages q. How many
 -- they are is left free: at least one or a stop comes, and with those done before they are at most the limit. No log is looked at
@@ -29,8 +30,13 @@ pub record Leads (inputs : Inputs) (done limit : ℕ) (m : Lh5801) (p : Pages) (
   pub within : r.steps ≤ limit
   pub states : ℕ
   pub bus : List Access
-  pub reached : Reaches inputs none more m p r.cpu q states bus
-  pub ahead : AheadIs inputs done limit r.steps r.cpu q r.ahead
+  pub reached : Reaches inputs None more m p r.cpu q states bus
+  pub ahead : AheadIs inputs done limit r.steps r.cpu q r.stop
+
+-- the same in a memory that holds the same lent pages
+pub record LeadsIn (s : Settings) (done : ℕ) (m : Lh5801) (l : Memory) (r : Led) (n : Memory) : Type 0 where
+  pub leads : Leads s.inputs done s.limit m (held l) r (held n)
+  pub lent : SameLent l n
 
 -- IR1 and timer reached as they were before
 unfoldable pub unmoved_of : Lh5801 → Lh5801 → Lh5801

@@ -1,0 +1,4 @@
+use Rattle.bus.proofs.BusLog.bytes.Goals as goal
+
+pub loop-preserved : goal.loop-preserved
+loop-preserved c = ?

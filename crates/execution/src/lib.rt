@@ -179,6 +179,7 @@ pub fn instruction(cpu: Lh5801, memory: &mut Memory, inputs: Inputs) -> Result<E
 }
 
 // Timer reached moves to IR1.
+#[tactic(auto, unfolding(crate::specs::Step::reached_of))]
 pub fn reached(cpu: Lh5801) -> Lh5801
     ensures { result ≡ reached_of cpu }
 {
@@ -230,6 +231,7 @@ pub fn due(cpu: Lh5801) -> bool
 }
 
 // One step in which no instruction is due.
+#[tactic(auto, using(crate::proofs::Order::reached_bf, crate::proofs::Order::reached_clear, crate::proofs::Order::reached_due, crate::proofs::Order::step_reached, crate::proofs::Order::step_off))]
 pub fn step_cpu(cpu: Lh5801, memory: &mut Memory, inputs: Inputs) -> Result<Lh5801, Stop>
     requires { due_of cpu ≡ false }
     ensures { Changes (mapped outcome_of (step_of cpu inputs)) memory result }

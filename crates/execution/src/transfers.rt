@@ -124,6 +124,7 @@ pub fn pop_to(cpu: Lh5801, memory: &Memory, r: Register) -> Lh5801
 }
 
 // A pair to the stack.
+#[tactic(auto, unfolding(crate::specs::Instructions::push_from_of))]
 pub fn push_from(cpu: Lh5801, memory: &mut Memory, r: Register) -> Lh5801
     ensures { Changes (push_from_of cpu r) memory result }
 {
@@ -154,6 +155,7 @@ pub fn from_x(cpu: Lh5801, w: Word) -> Lh5801
 }
 
 // A pair and A, with T as it was.
+#[tactic(auto, unfolding(crate::specs::Instructions::adr_in_of))]
 pub fn adr(cpu: Lh5801, r: Register) -> Lh5801
     ensures { result ≡ adr_in_of cpu r }
 {
@@ -162,6 +164,7 @@ pub fn adr(cpu: Lh5801, r: Register) -> Lh5801
 }
 
 // The divider starts again: as the 8 states are counted after this, previous takes them too.
+#[tactic(auto, unfolding(crate::specs::Instructions::cdv_of))]
 pub fn cdv(cpu: Lh5801) -> Lh5801
     ensures { result ≡ cdv_of cpu }
 {
@@ -170,6 +173,7 @@ pub fn cdv(cpu: Lh5801) -> Lh5801
 }
 
 // A word of the stack passed over.
+#[tactic(auto, unfolding(crate::specs::Instructions::drop_word_of))]
 pub fn drop_word(cpu: Lh5801) -> Lh5801
     ensures { result ≡ drop_word_of cpu }
 {

@@ -178,7 +178,7 @@ impl BusLog<'_> {
         if let Place::Fixed(page) = place {
             self.bytes(memory, cpu.p, 2);
         }
-        let l = places::locate(places::word_at(cpu, place), cpu.p, memory, place);
+        let l = places::locate(cpu, memory, place);
         self.at(cpu, memory, action, l.addr, l.p);
     }
 
@@ -256,7 +256,7 @@ pub fn note_step(cpu: Lh5801, memory: &Memory, log: &mut BusLog)
     requires { log.old.used ≤ most }
     ensures { AppendsStep cpu memory log }
 {
-    if cpu.bf && !cpu.ir0 {
+    if cpu.bf & !cpu.ir0 {
         let enabled = arithmetic::get_flag(cpu.t, arithmetic::IE);
         if (cpu.is_timer_reached | cpu.ir1) & enabled {
             log.accept(cpu, memory, 0xfffa);

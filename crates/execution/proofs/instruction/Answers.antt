@@ -34,8 +34,3 @@ returns-else-settled c =
 pub returns-in_default : goal.returns-in_default
 returns-in_default c = (instruction_unlisted _ _ c.requires.1 c.fetch-opcode.ensures (sym c.decode.ensures ∙ c.in_default.is) refl, tt)
 
-pub timer_part-k-requires : goal.timer_part-k-requires
-timer_part-k-requires c = executed_small _ _ _ _ _ c.requires.0 (rw c.with_p.ensures at c.execute-next.ensures) c.add_state.ensures
-
-pub timer_part-requires : goal.timer_part-requires
-timer_part-requires c = executed_small _ _ _ _ _ c.requires.0 (rw c.with_p.ensures at c.execute-next.ensures) c.add_state-else-settled.ensures

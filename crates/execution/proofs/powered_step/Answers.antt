@@ -3,15 +3,9 @@ use Rattle.execution.proofs.Order.{acknowledged_tm, step_held, step_interrupt}
 use Rattle.execution.proofs.DueAgain.{accept_small}
 use Rattle.execution.proofs.powered_step.Goals as goal
 
-pub timer_part-requires : goal.timer_part-requires
-timer_part-requires c = c.requires.0
-
 pub returns-then-cpu : goal.returns-then-cpu
 returns-then-cpu c =
     step_held _ _ c.requires.1 c.requires.2 c.if-cpu.true c.timer_part.ensures
-
-pub timer_part-requires-then-cpu-get_flag : goal.timer_part-requires-then-cpu-get_flag
-timer_part-requires-then-cpu-get_flag c = accept_small _ _ (rw acknowledged_tm c.requires.0) c.accepted.ensures
 
 pub returns-then-cpu-get_flag : goal.returns-then-cpu-get_flag
 returns-then-cpu-get_flag c =

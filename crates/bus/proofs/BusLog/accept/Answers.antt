@@ -7,4 +7,4 @@ returns c =
     let vector =
       rw (c.after_write-high.ensures, c.after_write-low.ensures, read_value _ c.read_byte.ensures, read_value _ c.read_byte-2.ensures, c.from-addr.ensures)
       at c.push_and_vector.ensures in
-    grows_then c.note.ensures vector
+    grows_then (rw c.from.ensures at c.note.ensures) vector

@@ -38,9 +38,9 @@ pub grows_then : {xs ys : List Access} {a b c : BusLog} → Grows xs a b → Gro
 grows_then {xs} {ys} {a} p q =
     record {
       counted = λ h.
-        let total : length (xs ++ ys) ≡ length xs + length ys = length-append xs ys in
-        let first = p.counted (omega (arith, h, total)) in
-        notes_then xs ys a.entries.now a.used first (q.counted (omega (arith, h, total, first.1)));
+          let total : length (xs ++ ys) ≡ length xs + length ys = length-append xs ys in
+          let first = p.counted (omega (arith, h, total)) in
+          notes_then xs ys a.entries.now a.used first (q.counted (omega (arith, h, total, first.1)));
       lent = q.lent ∙ p.lent;
     }
 

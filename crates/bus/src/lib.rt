@@ -11,12 +11,10 @@ ghost use Rattle.execution.specs.Code.Shapes.{bytes_from, push_word_accesses, af
 ghost use Rattle.bus.specs.Code.Notes.{most, Notes, access_of, AppendsStep};
 
 use arithmetic::record::Lh5801;
-use execution::Opcode;
-use execution::flow;
 use execution::instructions::{Change, Condition};
-use execution::places;
 use execution::places::Place;
 use execution::shapes::{Action, Shape};
+use execution::{Opcode, flow, places};
 use pages::Memory;
 
 pub mod tables;
@@ -113,15 +111,7 @@ impl BusLog<'_> {
     }
 
     // A word pushed, and then the vector at an address read, which held high and low before the push.
-    fn push_and_vector(
-        &mut self,
-        memory: &Memory,
-        s: u16,
-        w: u16,
-        vector: u16,
-        high: u8,
-        low: u8,
-    )
+    fn push_and_vector(&mut self, memory: &Memory, s: u16, w: u16, vector: u16, high: u8, low: u8)
         ensures { Notes (push_and_vector_accesses (as_shared memory) s w vector high low) self }
     {
         let addr = u32::from(vector);

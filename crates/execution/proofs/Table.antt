@@ -108,7 +108,7 @@ unfolding chained
 nothing i byte = refl
 
 -- a row that lists nothing may be left out: rows 7 and F after FD
-blank : (k : ℕ) → get_or empty_row k None ≡ None
+pub blank : (k : ℕ) → get_or empty_row k None ≡ None
 blank k = sym (default None empty_row [] 16 k refl tt)
 
 pub skip : (rest : List (List (Option Listed))) (i byte : ℕ) → chained rest (suc i) byte ≡ chained (empty_row ∷ rest) i byte

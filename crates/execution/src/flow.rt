@@ -69,7 +69,7 @@ pub fn vector(cpu: Lh5801, memory: &mut Memory, nr: u8) -> Lh5801
     ensures { Changes (vector_of cpu nr) memory result }
 {
     let pushed = pages::push_word(cpu, memory, cpu.p);
-    let at = memory.get_mem16(0xff00 + nr as u16);
+    let at = memory.get_mem16(0xff00 + u16::from(nr));
     let t = arithmetic::set_flag(cpu.t, arithmetic::ZF, false);
     pages::add_state(pushed.with_p(at).with_t(t), 13)
 }
@@ -113,6 +113,6 @@ pub fn rti(cpu: Lh5801, memory: &Memory) -> Lh5801
 {
     let w = pages::pop_word(cpu.s, memory);
     let s = w.s.wrapping_add(1);
-    let t = memory.read_byte(s as u32);
+    let t = memory.read_byte(u32::from(s));
     cpu.with_p(w.value).with_s(s).with_t(t)
 }

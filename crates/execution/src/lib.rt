@@ -16,7 +16,6 @@ use crate::instructions::{Accumulator, Instruction, Listed, Signal};
 use arithmetic::record::Lh5801;
 use pages::{Code, Memory};
 
-pub mod entries;
 pub mod flow;
 pub mod instructions;
 pub mod opcodes;

@@ -70,8 +70,8 @@ pub fn get_half(cpu: Lh5801, h: Half) -> u8
     ensures { result ≡ half_in cpu h }
 {
     match h {
-        Half::High(r) => (get_word(cpu, r) / 256) as u8,
-        Half::Low(r) => (get_word(cpu, r) % 256) as u8,
+        Half::High(r) => get_word(cpu, r).to_be_bytes()[0],
+        Half::Low(r) => get_word(cpu, r).to_be_bytes()[1],
         Half::Missing => 0,
     }
 }
@@ -80,8 +80,8 @@ pub fn set_half(cpu: Lh5801, h: Half, v: u8) -> Lh5801
     ensures { result ≡ with_half cpu h v }
 {
     match h {
-        Half::High(r) => set_word(cpu, r, v as u16 * 256 + get_word(cpu, r) % 256),
-        Half::Low(r) => set_word(cpu, r, get_word(cpu, r) / 256 * 256 + v as u16),
+        Half::High(r) => set_word(cpu, r, pages::word(v, get_half(cpu, Half::Low(r)))),
+        Half::Low(r) => set_word(cpu, r, pages::word(get_half(cpu, Half::High(r)), v)),
         Half::Missing => cpu,
     }
 }
@@ -90,7 +90,7 @@ pub fn paged(addr: u16, page: Page) -> u32
     ensures { result ≡ address_of addr page }
 {
     match page {
-        Page::Me0 => addr as u32,
+        Page::Me0 => u32::from(addr),
         Page::Me1 => pages::me1(addr),
     }
 }

@@ -54,8 +54,8 @@ pub fn load_s(cpu: Lh5801, memory: &Memory) -> Lh5801
 pub fn tin(cpu: Lh5801, memory: &mut Memory) -> Lh5801
     ensures { Changes (tin_of cpu) memory result }
 {
-    let b = memory.read_byte(cpu.x as u32);
-    memory.write_byte(cpu.y as u32, b);
+    let b = memory.read_byte(u32::from(cpu.x));
+    memory.write_byte(u32::from(cpu.y), b);
     let x = cpu.x.wrapping_add(1);
     let y = cpu.y.wrapping_add(1);
     cpu.with_x(x).with_y(y)
@@ -65,7 +65,7 @@ pub fn tin(cpu: Lh5801, memory: &mut Memory) -> Lh5801
 pub fn cin(cpu: Lh5801, memory: &Memory) -> Lh5801
     ensures { Reads (cin_of cpu) memory result }
 {
-    let b = memory.read_byte(cpu.x as u32);
+    let b = memory.read_byte(u32::from(cpu.x));
     let x = cpu.x.wrapping_add(1);
     arithmetic::cpa(cpu.with_x(x), cpu.a, b)
 }
@@ -97,8 +97,8 @@ pub fn accumulator(cpu: Lh5801, i: Accumulator, keyboard: u8) -> Lh5801
         Accumulator::Tta => arithmetic::tta(cpu),
         Accumulator::Att => cpu.with_t(cpu.a & 0x1f),
         Accumulator::Ita => arithmetic::lda(cpu, keyboard),
-        Accumulator::Am0 => cpu.with_tm(cpu.a as u16),
-        Accumulator::Am1 => cpu.with_tm(cpu.a as u16 + 256),
+        Accumulator::Am0 => cpu.with_tm(u16::from(cpu.a)),
+        Accumulator::Am1 => cpu.with_tm(u16::from(cpu.a) + 256),
     }
 }
 

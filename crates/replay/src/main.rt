@@ -254,7 +254,6 @@ fn call_differs(
     let len1 = lent.len1;
     prepare(&mut page0, 0, len0, lent.rule, file, c.page0, sets);
     prepare(&mut page1, 1, len1, lent.rule, file, c.page1, sets);
-    let settings = report::settings_of(c.asked);
     let r = run_pages(
         c.cpu,
         &mut page0,
@@ -263,7 +262,7 @@ fn call_differs(
         len1,
         &mut entries,
         lent.log,
-        settings,
+        Settings::from(c.asked),
     );
     let n = report::answer_line(&mut out, r.answer);
     let sums = sums_after(&page0[..len0], &page1[..len1], &entries, r.used);

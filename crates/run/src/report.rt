@@ -10,13 +10,14 @@ use crate::{Answer, Log, Settings, campaign_file, line, parts};
 use execution::Inputs;
 
 // What a call is given by what a file asks.
-pub fn settings_of(asked: Asked) -> Settings
-    ensures { result ≡ settings_in asked }
-{
-    let inputs = Inputs::of_keyboard(asked.keyboard);
-    Settings {
-        inputs: inputs,
-        limit: asked.limit,
+impl From<Asked> for Settings {
+    ghost from_gives = { λ asked settings. settings ≡ settings_in asked };
+
+    fn from(asked: Asked) -> Settings {
+        Settings {
+            inputs: Inputs::of_keyboard(asked.keyboard),
+            limit: asked.limit,
+        }
     }
 }
 
@@ -31,23 +32,20 @@ fn file_answer(bytes: &[u8], c: Parsed) -> Answer
     let mut page1 = [0u8; 16384];
     parts::copy_part(bytes, c.page0.at, &mut page0, c.page0.len);
     parts::copy_part(bytes, c.page1.at, &mut page1, c.page1.len);
-    let cpu = c.cpu;
-    let asked = c.asked;
-    let settings = settings_of(asked);
     let mut entries = [0u32; 1];
     let log = Log {
         lent: false,
         used: 0,
     };
     let r = parts::run_parts(
-        cpu,
+        c.cpu,
         &mut page0,
         c.page0.len,
         &mut page1,
         c.page1.len,
         &mut entries,
         log,
-        settings,
+        Settings::from(c.asked),
     );
     r.answer
 }
@@ -56,9 +54,7 @@ fn file_answer(bytes: &[u8], c: Parsed) -> Answer
 pub fn answer_line(out: &mut [u8; 200], a: Answer) -> usize
     ensures { Printed out.old (answer_line a) out.new result }
 {
-    let end = a.end;
-    let cpu = a.cpu;
-    line::line(out, crate::number(end), a.steps, a.states, cpu)
+    line::line(out, crate::number(a.end), a.steps, a.states, a.cpu)
 }
 
 // The line of a campaign file, at the start of a buffer; its length is returned.

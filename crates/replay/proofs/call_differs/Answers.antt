@@ -17,5 +17,5 @@ returns c =
       r.answer,
       c.prepare.ensures,
       c.prepare-2.ensures,
-      c.settings_of-settings.ensures,
+      c.from.ensures,
     )

@@ -34,7 +34,7 @@ pub returns-in-Ita : goal.returns-in-Ita
 returns-in-Ita c = rw c.in-Ita.is c.lda.ensures
 
 pub returns-in-Am0 : goal.returns-in-Am0
-returns-in-Am0 c = rw c.in-Am0.is (c.with_tm.ensures ∙ ap (with_tm c.args.cpu) (byte_cut (search rules)))
+returns-in-Am0 c = rw c.in-Am0.is (c.with_tm.ensures ∙ ap (with_tm c.args.cpu) (c.from.ensures ∙ byte_cut (search rules)))
 
 pub returns-in-Am1 : goal.returns-in-Am1
-returns-in-Am1 c = rw c.in-Am1.is (c.with_tm-in-Am1.ensures ∙ ap (λ (a : ℕ). with_tm c.args.cpu (a + 0x100)) (byte_cut (search rules)))
+returns-in-Am1 c = rw c.in-Am1.is (c.with_tm-in-Am1.ensures ∙ ap (λ (a : ℕ). with_tm c.args.cpu (a + 0x100)) (c.from-in-Am1.ensures ∙ byte_cut (search rules)))

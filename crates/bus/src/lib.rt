@@ -11,12 +11,10 @@ ghost use Rattle.execution.specs.Code.Shapes.{bytes_from, push_word_accesses, af
 ghost use Rattle.bus.specs.Code.Notes.{most, Notes, access_of, AppendsStep};
 
 use arithmetic::record::Lh5801;
-use execution::Opcode;
-use execution::flow;
 use execution::instructions::{Change, Condition};
-use execution::places;
 use execution::places::Place;
 use execution::shapes::{Action, Shape};
+use execution::{Opcode, flow, places};
 use pages::Memory;
 
 pub mod tables;
@@ -114,15 +112,7 @@ impl BusLog<'_> {
     }
 
     // A word pushed, and then the vector at an address read, which held high and low before the push.
-    fn push_and_vector(
-        &mut self,
-        memory: &Memory,
-        s: u16,
-        w: u16,
-        vector: u16,
-        high: u8,
-        low: u8,
-    )
+    fn push_and_vector(&mut self, memory: &Memory, s: u16, w: u16, vector: u16, high: u8, low: u8)
         ensures { Notes (push_and_vector_accesses (as_shared memory) s w vector high low) self }
     {
         let addr = u32::from(vector);
@@ -257,7 +247,7 @@ pub fn note_step(cpu: Lh5801, memory: &Memory, log: &mut BusLog)
     requires { log.old.used ≤ most }
     ensures { AppendsStep cpu memory log }
 {
-    if cpu.bf && !cpu.ir0 {
+    if cpu.bf & !cpu.ir0 {
         let enabled = arithmetic::get_flag(cpu.t, arithmetic::IE);
         if (cpu.is_timer_reached | cpu.ir1) & enabled {
             log.accept(cpu, memory, 0xfffa);

@@ -1,5 +1,6 @@
 -- The accesses that specs/Code/Shapes.antt computes ahead of a step are those that the step makes.
-use Rattle.std.proofs.Common.{◌≡◌, ℕ, ◌+◌, ◌/◌, ◌%◌, ◌≤◌, Bool, true, false, cond, ◌&&◌, ◌||◌, eqb, List, [], ◌∷◌, ◌++◌, length, refl, ap, ◌∙◌, add-zero, append-nil, arith, eqb-true}
+use Rattle.std.proofs.Common.{◌≡◌, ℕ, ◌+◌, ◌/◌, ◌%◌, ◌<◌, ◌≤◌, Bool, true, false, cond, not, ◌&&◌, ◌||◌, T, eqb, ltb, List, [], ◌∷◌, ◌++◌, length, sym, refl, ap, ◌∙◌, add-zero, append-nil, arith, ltb→lt, ltb-false, ltb-true, eq-eqb, ne_eqb, eqb-true}
+use Rattle.arithmetic.proofs.Compute.{every, test_at}
 use Rattle.arithmetic.specs.declared.record.Lh5801.{Lh5801}
 use Rattle.arithmetic.specs.Record.{with_p, with_s, with_t, with_ir1, with_ir2, with_is_timer_reached}
 use Rattle.arithmetic.specs.Flags.{IE, has_flag}
@@ -12,6 +13,9 @@ use Rattle.pages.specs.Timer.{add_state_of, timer_part_of}
 use Rattle.pages.proofs.Exec.{bind_answer, bind_accesses}
 use Rattle.pages.proofs.Pages.{store_long, stored_long, at_store}
 use Rattle.execution.specs.declared.Inputs.{Inputs}
+use Rattle.execution.specs.declared.places.Register.TheVariants.{X, Y, U}
+use Rattle.execution.specs.declared.places.Page.TheVariants.{Me0, Me1}
+use Rattle.execution.specs.declared.places.Page.{Page}
 use Rattle.execution.specs.declared.places.Place.{Place}
 use Rattle.execution.specs.declared.places.Place.TheVariants.{InHalf, Pointer, Fixed, InCode}
 use Rattle.execution.specs.declared.instructions.Change.{Change}
@@ -29,7 +33,8 @@ use Rattle.execution.specs.Instructions.{operated, alu_of, store_of, sta_of, cha
 use Rattle.execution.specs.States.{added_of}
 use Rattle.execution.specs.Step.{StepEnd, did, stopped, instruction, fetched, fetch_of, decoded_by, decoded_step_of, instruction_of, interrupt_of, reached_of, halted_of, powered_of, step_of}
 use Rattle.execution.specs.Completed.{of_completed, completed_accesses}
-use Rattle.execution.specs.Code.Shapes.{opcode_at, after_write, after_push_word, vector_accesses, accept_accesses, changed_by, place_accesses, vector_if_accesses, shape_accesses, operand_shape, store_shape, shape_of, shape_in, shape_by, opcode_accesses, fetched_accesses, instruction_accesses, powered_accesses, step_accesses}
+use Rattle.execution.specs.Code.Shapes.{opcode_at, bytes_from, after_write, after_push_word, vector_accesses, accept_accesses, changed_by, place_accesses, vector_if_accesses, shape_accesses, operand_shape, store_shape, shape_of, shape_in, shape_by, opcode_accesses, fetched_accesses, instruction_accesses, powered_accesses, step_accesses}
+use Rattle.execution.proofs.Listed.{past_rows}
 use Rattle.execution.proofs.Choices.{cond_both}
 use Rattle.execution.proofs.OpcodeRead.{fetch_answer, fetch_pages}
 use Rattle.execution.proofs.Ways.{moved}
@@ -223,17 +228,27 @@ cond_each : (b : Bool) {k k' l l' : List Access} → k ≡ k' → l ≡ l' → c
 cond_each true p q = p
 cond_each false p q = q
 
-powered_accesses_lem : (m : Lh5801) (inputs : Inputs) (pages : Pages) → completed_accesses (exec (powered_of m inputs) pages) ≡ powered_accesses m pages m.ir1
+cond_not : (b : Bool) (k l : List Access) → cond b k l ≡ cond (not b) l k
+cond_not true k l = refl
+cond_not false k l = refl
+
+cond_and : (a b : Bool) (k l : List Access) → cond a (cond b k l) l ≡ cond (a && b) k l
+cond_and true b k l = refl
+cond_and false b k l = refl
+
+powered_accesses_lem : (m : Lh5801) (inputs : Inputs) (pages : Pages)
+    → completed_accesses (exec (powered_of m inputs) pages) ≡ cond (not m.ir0) (powered_accesses m pages m.ir1) []
 unfolding powered_of exec with_ir1 with_ir2
 powered_accesses_lem m inputs pages =
     completed_cond pages m.ir0 _ _
     ∙ cond_each m.ir0 refl (completed_cond pages (m.ir1 && has_flag m.t IE) _ _
     ∙ cond_each (m.ir1 && has_flag m.t IE) (interrupt_accesses (with_ir1 m false) 0xFFFA pages) (completed_cond pages (m.ir2 && has_flag m.t IE) _ _
     ∙ cond_each (m.ir2 && has_flag m.t IE) (interrupt_accesses (with_ir2 m false) 0xFFF8 pages) (completed_cond pages m.is_halted _ _
-    ∙ cond_each m.is_halted (halted_accesses m inputs pages) (instruction_accesses_lem m inputs pages))))
+    ∙ cond_each m.is_halted (halted_accesses m inputs pages) (instruction_accesses_lem m inputs pages) ∙ cond_not m.is_halted _ _)))
+    ∙ cond_not m.ir0 _ _
 
 reached_accesses : (m : Lh5801) (inputs : Inputs) (pages : Pages) (r : Bool)
-    → completed_accesses (exec (powered_of (cond r (moved m) m) inputs) pages) ≡ powered_accesses m pages (r || m.ir1)
+    → completed_accesses (exec (powered_of (cond r (moved m) m) inputs) pages) ≡ cond (not m.ir0) (powered_accesses m pages (r || m.ir1)) []
 unfolding instruction_accesses locate_of with_ir1 with_is_timer_reached with_p
 reached_accesses m inputs pages true = powered_accesses_lem (moved m) inputs pages
 reached_accesses m inputs pages false = powered_accesses_lem m inputs pages
@@ -242,7 +257,7 @@ reached_accesses m inputs pages false = powered_accesses_lem m inputs pages
 pub step_accesses_ahead : (m : Lh5801) (inputs : Inputs) (pages : Pages) → completed_accesses (exec (step_of m inputs) pages) ≡ step_accesses m pages
 unfolding step_of reached_of exec
 step_accesses_ahead m inputs pages =
-    completed_cond pages m.bf _ _ ∙ cond_each m.bf (reached_accesses m inputs pages m.is_timer_reached) refl
+    completed_cond pages m.bf _ _ ∙ cond_each m.bf (reached_accesses m inputs pages m.is_timer_reached) refl ∙ cond_and m.bf (not m.ir0) _ _
 
 -- at most seven
 pub completed_few : (m : Lh5801) (inputs : Inputs) (pages : Pages) → length (completed_accesses (exec (step_of m inputs) pages)) ≤ 7
@@ -251,3 +266,15 @@ completed_few m inputs pages = go (exec (step_of m inputs) pages).answer
     go : (e : StepEnd) → length (of_completed e (exec (step_of m inputs) pages).accesses) ≤ 7
     go (did k n kind) = step_accesses_lem m inputs pages
     go (stopped s) = omega arith
+
+-- a place's own bytes in the code: a word, or none
+pub fixed_bytes : (m : Lh5801) (page : Page) (pages : Pages) → (exec (locate_of m (Fixed page)) pages).accesses ≡ bytes_from pages m.p 2
+unfolding locate_of readop_word_of readop_of read ◌>>=◌ exec after
+fixed_bytes m page pages = refl
+
+pub other_bytes : (m : Lh5801) (place : Place) (pages : Pages) → ((page : Page) → place ≡ Fixed page → ⊥) → (exec (locate_of m place) pages).accesses ≡ []
+unfolding locate_of exec
+other_bytes m (InHalf h) pages f = refl
+other_bytes m (Pointer page r) pages f = refl
+other_bytes m (Fixed page) pages f = absurd (f page refl)
+other_bytes m InCode pages f = refl

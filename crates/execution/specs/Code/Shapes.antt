@@ -1,7 +1,7 @@
 -- How the code is built, and need not be believed: proofs/AccessesAhead.antt shows that these are the accesses of the step.
 -- The accesses of the coming step, computed from the record and the pages before it, for the log of document 02's F-2. Each instruction has a
 -- shape, what is read and written after its own bytes; `shape_accesses` says what each shape stands for.
-use Rattle.std.specs.Prelude.{ℕ, zero, suc, ◌+◌, ◌/◌, ◌%◌, Bool, true, false, cond, not, ◌&&◌, ◌||◌, Option, Some, None, List, [], ◌∷◌, ◌++◌, ◌==◌, bit_and, bit_or}
+use Rattle.std.specs.Prelude.{ℕ, zero, suc, ◌+◌, ◌/◌, ◌%◌, Bool, cond, not, ◌&&◌, ◌||◌, Option, Some, None, List, [], ◌∷◌, ◌++◌, ◌==◌, bit_and, bit_or}
 use Rattle.arithmetic.specs.declared.record.Lh5801.{Lh5801}
 use Rattle.arithmetic.specs.Record.{with_p}
 use Rattle.arithmetic.specs.Flags.{IE, has_flag}

@@ -39,6 +39,8 @@ fn words_of(r: Answer) -> [u64; 16]
     ensures { (result ≡ words_of r) × AllWithin word_widths (words_of r) }
 {
     let numbers = record_numbers::from_record(r.cpu);
+    let number = u64::from(r.end.number());
+    let byte = u64::from(r.end.byte());
     [
         numbers[0],
         numbers[1],
@@ -52,8 +54,8 @@ fn words_of(r: Answer) -> [u64; 16]
         numbers[9],
         numbers[10],
         numbers[11],
-        u64::from(r.end.number()),
-        u64::from(r.end.byte()),
+        number,
+        byte,
         u64::from(r.steps),
         r.states,
     ]
@@ -62,6 +64,7 @@ fn words_of(r: Answer) -> [u64; 16]
 // The run call; the used count after it is returned. In C: lh5801_call(words, page0, length0, page1, length1, limit, keyboard, idle, logged, log,
 // log_length, log_used).
 #[unsafe(no_mangle)]
+#[tactic(auto, using(crate::proofs::Words::taken_within, crate::proofs::Words::continues))]
 pub extern "C" fn lh5801_call(
     words: &mut [u64; 16],
     page0: &mut [u8],

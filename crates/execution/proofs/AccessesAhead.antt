@@ -1,6 +1,5 @@
 -- The accesses that specs/Code/Shapes.antt computes ahead of a step are those that the step makes.
-use Rattle.std.proofs.Common.{◌≡◌, ℕ, ◌+◌, ◌/◌, ◌%◌, ◌<◌, ◌≤◌, Bool, true, false, cond, not, ◌&&◌, ◌||◌, T, eqb, ltb, List, [], ◌∷◌, ◌++◌, length, sym, refl, ap, ◌∙◌, add-zero, append-nil, arith, ltb→lt, ltb-false, ltb-true, eq-eqb, ne_eqb, eqb-true}
-use Rattle.arithmetic.proofs.Compute.{every, test_at}
+use Rattle.std.proofs.Common.{◌≡◌, ℕ, ◌+◌, ◌/◌, ◌%◌, ◌≤◌, Bool, true, false, cond, not, ◌&&◌, ◌||◌, eqb, List, [], ◌∷◌, ◌++◌, length, refl, ap, ◌∙◌, add-zero, append-nil, arith, eqb-true}
 use Rattle.arithmetic.specs.declared.record.Lh5801.{Lh5801}
 use Rattle.arithmetic.specs.Record.{with_p, with_s, with_t, with_ir1, with_ir2, with_is_timer_reached}
 use Rattle.arithmetic.specs.Flags.{IE, has_flag}
@@ -13,8 +12,6 @@ use Rattle.pages.specs.Timer.{add_state_of, timer_part_of}
 use Rattle.pages.proofs.Exec.{bind_answer, bind_accesses}
 use Rattle.pages.proofs.Pages.{store_long, stored_long, at_store}
 use Rattle.execution.specs.declared.Inputs.{Inputs}
-use Rattle.execution.specs.declared.places.Register.TheVariants.{X, Y, U}
-use Rattle.execution.specs.declared.places.Page.TheVariants.{Me0, Me1}
 use Rattle.execution.specs.declared.places.Page.{Page}
 use Rattle.execution.specs.declared.places.Place.{Place}
 use Rattle.execution.specs.declared.places.Place.TheVariants.{InHalf, Pointer, Fixed, InCode}
@@ -34,7 +31,6 @@ use Rattle.execution.specs.States.{added_of}
 use Rattle.execution.specs.Step.{StepEnd, did, stopped, instruction, fetched, fetch_of, decoded_by, decoded_step_of, instruction_of, interrupt_of, reached_of, halted_of, powered_of, step_of}
 use Rattle.execution.specs.Completed.{of_completed, completed_accesses}
 use Rattle.execution.specs.Code.Shapes.{opcode_at, bytes_from, after_write, after_push_word, vector_accesses, accept_accesses, changed_by, place_accesses, vector_if_accesses, shape_accesses, operand_shape, store_shape, shape_of, shape_in, shape_by, opcode_accesses, fetched_accesses, instruction_accesses, powered_accesses, step_accesses}
-use Rattle.execution.proofs.Listed.{past_rows}
 use Rattle.execution.proofs.Choices.{cond_both}
 use Rattle.execution.proofs.OpcodeRead.{fetch_answer, fetch_pages}
 use Rattle.execution.proofs.Ways.{moved}

@@ -1,7 +1,7 @@
 -- How the code is built, and need not be believed: proofs/AccessesAhead.antt shows that these are the accesses of the step.
 -- The accesses of the coming step, computed from the record and the pages before it, for the log of document 02's F-2. Each instruction has a
 -- shape, what is read and written after its own bytes; `shape_accesses` says what each shape stands for.
-use Rattle.std.specs.Prelude.{ℕ, zero, suc, ◌+◌, ◌/◌, ◌%◌, Bool, true, false, cond, not, ◌&&◌, ◌||◌, Option, Some, None, List, [], ◌∷◌, ◌++◌, ◌==◌, bit_and, bit_or}
+use Rattle.std.specs.Prelude.{ℕ, zero, suc, ◌+◌, ◌/◌, ◌%◌, Bool, cond, not, ◌&&◌, ◌||◌, Option, Some, None, List, [], ◌∷◌, ◌++◌, ◌==◌, bit_and, bit_or}
 use Rattle.arithmetic.specs.declared.record.Lh5801.{Lh5801}
 use Rattle.arithmetic.specs.Record.{with_p}
 use Rattle.arithmetic.specs.Flags.{IE, has_flag}
@@ -14,7 +14,6 @@ use Rattle.execution.specs.declared.places.Register.TheVariants.{X}
 use Rattle.execution.specs.declared.places.Page.TheVariants.{Me0}
 use Rattle.execution.specs.declared.places.Place.{Place}
 use Rattle.execution.specs.declared.places.Place.TheVariants.{InHalf, Pointer, Fixed, InCode}
-use Rattle.execution.specs.declared.places.Located.{Located}
 use Rattle.execution.specs.declared.instructions.Change.{Change}
 use Rattle.execution.specs.declared.instructions.Change.TheVariants.{Ani, Ori, Adi}
 use Rattle.execution.specs.declared.instructions.Condition.{Condition}
@@ -84,12 +83,12 @@ accesses_at m pages RotateRight a p = read_of a (at pages a) ∷ write_of a (drr
 accesses_at m pages RotateLeft a p = read_of a (at pages a) ∷ write_of a (drl_moved m.a (at pages a)).byte ∷ []
 
 -- at a place in memory: its word in the code is read first, where it has one
-abbrev pub located_at : Lh5801 → Pages → Place → Located
+abbrev pub located_at : Lh5801 → Pages → Place → Code ℕ
 located_at m pages place = (exec (locate_of m place) pages).answer
 
 abbrev pub place_accesses : Lh5801 → Pages → Action → Place → List Access
 place_accesses m pages o place =
-    (exec (locate_of m place) pages).accesses ++ accesses_at m pages o (located_at m pages place).addr (located_at m pages place).p
+    (exec (locate_of m place) pages).accesses ++ accesses_at m pages o (located_at m pages place).value (located_at m pages place).p
 
 -- the vector's number in the code, and where the condition holds, the vector
 abbrev pub vector_if_accesses : Lh5801 → Pages → Condition → List Access

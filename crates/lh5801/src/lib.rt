@@ -2,15 +2,15 @@
 #![tactic(auto)]
 
 ghost use Rattle.std.specs.Prelude.{◌≡◌, cond, ltb};
-ghost use Rattle.pages.specs.Contract.{at_entry, at_exit};
+ghost use Rattle.pages.specs.Pages.{pages};
 ghost use Rattle.execution.specs.Inputs.{inputs_of};
 ghost use Rattle.run.specs.RecordNumbers.{AllWithin};
-ghost use Rattle.run.specs.BusLog.{free_in};
+ghost use Rattle.run.specs.BusLog.{log_of, free_in, lent_if};
 ghost use Rattle.run.specs.Run.{call_of, settings};
-ghost use Rattle.lh5801.specs.Words.{taken_of, cpu_of, words_of, word_widths, log_with, Left};
+ghost use Rattle.lh5801.specs.Words.{taken_of, cpu_of, words_of, word_widths, Left};
 
-use execution::Inputs;
 use bus::BusLog;
+use execution::Inputs;
 use run::{Answer, Settings, record_numbers};
 
 // A number of at most 16 bits; a larger one counts as the largest of them.
@@ -84,7 +84,7 @@ pub extern "C" fn lh5801_call(
     log: &mut [u32],
     log_used: usize,
 ) -> usize
-    ensures { Left (call_of (settings (inputs_of keyboard idle) limit) (free_in (log_with logged log_used) log.old) (cpu_of words.old) (at_entry page0 page1)) (log_with logged log_used) log.old log.new result words.new (at_exit page0 page1) }
+    ensures { Left (call_of (settings (inputs_of keyboard idle) limit) (free_in (lent_if logged (log_of log.old log_used))) (cpu_of words.old) (pages page0.old page1.old)) logged (log_of log.old log_used) (log_of log.new result) words.new (pages page0.new page1.new) }
 {
     let numbers = taken(words);
     let cpu = record_numbers::record_of(&numbers);
@@ -96,15 +96,15 @@ pub extern "C" fn lh5801_call(
         inputs: inputs,
         limit: limit,
     };
-    let mut log = BusLog {
+    let mut lent = BusLog {
         entries: log,
         used: log_used,
     };
     let answer = if logged {
-        run::run(cpu, page0, page1, Some(&mut log), settings)
+        run::run(cpu, page0, page1, Some(&mut lent), settings)
     } else {
         run::run(cpu, page0, page1, None, settings)
     };
     *words = words_of(answer);
-    log.used
+    lent.used
 }

@@ -8,12 +8,12 @@ ghost use Rattle.pages.specs.Pages.{at as byte_at, stored};
 ghost use Rattle.pages.specs.Prog.{read_of, write_of};
 ghost use Rattle.pages.specs.Contract.{as_shared};
 ghost use Rattle.pages.specs.Stack.{up16, down16};
-ghost use Rattle.execution.specs.Code.Shapes.{opcode_at, byte_of, bytes_from, code_word_at, push_word_accesses, after_write, after_push_word, push_and_vector_accesses, vector_accesses, accept_accesses, register_by, paged_by, changed_by, rotated_by, change_accesses, test_accesses, rotate_accesses, accesses_at, place_accesses, flag_by, holds_by, vector_if_accesses, tin_accesses, sjp_accesses, push_or_tin_accesses, shape_accesses, shape_by, opcode_accesses, instruction_accesses, powered_accesses};
+ghost use Rattle.execution.specs.Code.Shapes.{opcode_at, bytes_from, code_word_at, push_word_accesses, after_write, after_push_word, push_and_vector_accesses, vector_accesses, accept_accesses, register_by, paged_by, changed_by, rotated_by, change_accesses, test_accesses, rotate_accesses, accesses_at, place_accesses, flag_by, holds_by, vector_if_accesses, tin_accesses, sjp_accesses, push_or_tin_accesses, shape_accesses, shape_by, opcode_accesses, instruction_accesses, powered_accesses};
 ghost use Rattle.bus.specs.Code.Notes.{most, Notes, NotesTo, NotesStep, AppendsStep};
 
 use arithmetic::record::Lh5801;
-use execution::Opcode;
-use pages::{Code, Memory};
+use execution::Fetched;
+use pages::Memory;
 
 // Document 02's bus log: a lent list of entries, and how many of them are used.
 #[derive(Drop)]
@@ -456,26 +456,18 @@ fn note_shape(cpu: Lh5801, memory: &Memory, log: &mut [u32], at: usize, opcode: 
     note_vector_if(cpu, memory, log, at, n - 80)
 }
 
-fn shape(opcode: Opcode) -> u8
-    ensures { result ≡ shape_by opcode }
+fn shape(fd: bool, opcode: u8) -> u8
+    ensures { result ≡ shape_by fd opcode }
 {
-    match opcode {
-        Opcode::First(byte) => SHAPES[byte as usize],
-        Opcode::AfterFd(byte) => SHAPES[256 + byte as usize],
-    }
-}
-
-fn byte_of(opcode: Opcode) -> u8
-    ensures { result ≡ byte_of opcode }
-{
-    match opcode {
-        Opcode::First(byte) => byte,
-        Opcode::AfterFd(byte) => byte,
+    if fd {
+        SHAPES[256 + opcode as usize]
+    } else {
+        SHAPES[opcode as usize]
     }
 }
 
 // The byte that names the instruction at p, after FD or not, and the address after it.
-fn opcode_at(memory: &Memory, p: u16) -> Code<Opcode>
+fn opcode_at(memory: &Memory, p: u16) -> Fetched
     ensures { result ≡ opcode_at (as_shared memory) p }
 {
     let first = byte_at(memory, p as u32);
@@ -483,26 +475,29 @@ fn opcode_at(memory: &Memory, p: u16) -> Code<Opcode>
     if first == 0xfd {
         let second = byte_at(memory, next as u32);
         let last = up(next);
-        Code {
-            value: Opcode::AfterFd(second),
+        Fetched {
+            fd: true,
+            byte: second,
             p: last,
         }
     } else {
-        Code {
-            value: Opcode::First(first),
+        Fetched {
+            fd: false,
+            byte: first,
             p: next,
         }
     }
 }
 
 // The opcode's own bytes.
-fn note_opcode(memory: &Memory, log: &mut [u32], at: usize, p: u16, opcode: Opcode) -> usize
+fn note_opcode(memory: &Memory, log: &mut [u32], at: usize, p: u16, fd: bool) -> usize
     requires { at ≤ most }
-    ensures { NotesTo (opcode_accesses (as_shared memory) p opcode) log at result × (result ≤ at + 2) }
+    ensures { NotesTo (opcode_accesses (as_shared memory) p fd) log at result × (result ≤ at + 2) }
 {
-    match opcode {
-        Opcode::AfterFd(byte) => note_bytes(memory, log, at, p, 2),
-        Opcode::First(byte) => note_bytes(memory, log, at, p, 1),
+    if fd {
+        note_bytes(memory, log, at, p, 2)
+    } else {
+        note_bytes(memory, log, at, p, 1)
     }
 }
 
@@ -512,12 +507,12 @@ fn note_instruction(cpu: Lh5801, memory: &Memory, log: &mut [u32], at: usize) ->
     ensures { NotesTo (instruction_accesses cpu (as_shared memory)) log at result }
 {
     let o = opcode_at(memory, cpu.p);
-    let n = shape(o.value);
+    let n = shape(o.fd, o.byte);
     if n == 255 {
         return at;
     }
-    let next = note_opcode(memory, log, at, cpu.p, o.value);
-    note_shape(cpu.with_p(o.p), memory, log, next, byte_of(o.value), n)
+    let next = note_opcode(memory, log, at, cpu.p, o.fd);
+    note_shape(cpu.with_p(o.p), memory, log, next, o.byte, n)
 }
 
 // An accepted interrupt: T pushed, P pushed, and the vector read.

@@ -14,6 +14,6 @@ returns c =
     let after = c.with_p in
     notes_as c.args.log.now c.args.at
     (ahead_listed c.args.cpu (held c.args.memory.now) c.opcode_at-o.ensures c.shape-n.ensures c.if-n.false after.ensures)
-    (notes_then (opcode_accesses (held c.args.memory.now) c.args.cpu.p c.opcode_at-o.result.value)
-    (shape_accesses after.result (held c.args.memory.now) _ c.shape-n.result)
-    c.args.log.now c.args.at c.note_opcode-next.ensures.0 (rw c.byte_of.ensures at c.note_shape.ensures))
+    (notes_then (opcode_accesses (held c.args.memory.now) c.args.cpu.p c.opcode_at-o.result.fd)
+    (shape_accesses after.result (held c.args.memory.now) c.opcode_at-o.result.byte c.shape-n.result)
+    c.args.log.now c.args.at c.note_opcode-next.ensures.0 c.note_shape.ensures)

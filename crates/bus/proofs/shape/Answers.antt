@@ -2,10 +2,10 @@ use Rattle.execution.proofs.Shapes.{shapes, shape_fd, shape_first}
 use Rattle.std.proofs.Common.{rules}
 use Rattle.bus.proofs.shape.Goals as goal
 
-pub returns-in-First : goal.returns-in-First
+pub returns-then-fd : goal.returns-then-fd
 unfolding shapes
-returns-in-First c = rw c.in-First.is (shape_first c.in-First.byte (search rules))
+returns-then-fd c = rw c.if-fd.true (shape_fd c.args.opcode (search rules))
 
-pub returns-in-AfterFd : goal.returns-in-AfterFd
+pub returns-else-fd : goal.returns-else-fd
 unfolding shapes
-returns-in-AfterFd c = rw c.in-AfterFd.is (shape_fd c.in-AfterFd.byte (search rules))
+returns-else-fd c = rw c.if-fd.false (shape_first c.args.opcode (search rules))

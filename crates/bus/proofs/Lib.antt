@@ -1,2 +1,4 @@
 pub mod Notes
 pub mod Entries
+pub mod Shapes
+pub mod Written

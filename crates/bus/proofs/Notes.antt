@@ -1,9 +1,21 @@
 -- Entries noted one after the other, and what a log then holds.
-use Rattle.std.proofs.Common.{◌≡◌, ℕ, ◌+◌, ◌≤◌, List, [], ◌∷◌, ◌++◌, map, length, take, drop, set, sym, refl, ap, ◌∙◌, add-zero, add-one, arith, length-append}
+use Rattle.std.proofs.Common.{◌≡◌, ℕ, suc, ◌+◌, ◌-◌, ◌<◌, ◌≤◌, List, [], ◌∷◌, ◌++◌, map, length, take, drop, set, sym, refl, ap, ◌∙◌, add-zero, add-one, arith, length-append}
+use Rattle.std.specs.Borrow.{MutBor}
 use lib.ListN.{length-map}
 use lib.Seq.{sets, length-sets, sets-eq}
-use Rattle.pages.specs.Prog.{Access}
+use denote.Triple.Both.{Both}
+use Rattle.pages.specs.Pages.{Pages, at}
+use Rattle.pages.specs.Prog.{Access, read_of, exec}
+use Rattle.pages.specs.Stack.{up16}
+use Rattle.arithmetic.specs.declared.record.Lh5801.{Lh5801}
+use Rattle.execution.specs.declared.Inputs.{Inputs}
+use Rattle.execution.specs.Step.{step_of}
+use Rattle.execution.specs.Completed.{completed_accesses}
+use Rattle.execution.specs.Code.Shapes.{bytes_from, step_accesses}
+use Rattle.execution.proofs.AccessesAhead.{step_accesses_ahead, completed_few}
+use Rattle.bus.specs.declared.BusLog.{BusLog}
 use Rattle.bus.specs.Log.{entry_of, noted}
+use Rattle.bus.specs.Code.Notes.{LentLog, most, Appends, Grows, Notes}
 
 -- entries noted after others
 pub noted_append : (log : List ℕ) (i : ℕ) (xs ys : List Access) → noted log i (xs ++ ys) ≡ noted (noted log i xs) (i + length xs) ys
@@ -12,25 +24,44 @@ noted_append log i (x ∷ xs) ys =
     let e : i + 1 + length xs ≡ i + length (x ∷ xs) = omega arith in
     noted_append (set log i (entry_of x)) (i + 1) xs ys ∙ ap (λ (j : ℕ). noted (noted (set log i (entry_of x)) (i + 1) xs) j ys) e
 
--- some entries noted up to the place j, and then others from there on
-pub noted_then : (xs ys : List Access) (l : List ℕ) (i : ℕ) {j : ℕ} {m n : List ℕ}
-    → m ≡ noted l i xs → j ≡ i + length xs → n ≡ noted m j ys → n ≡ noted l i (xs ++ ys)
-noted_then xs ys l i p e q = q ∙ rw (e, p) (sym (noted_append l i xs ys))
-
--- the same, with the place after them
+-- some entries noted up to the place j, and then others from there on, with the place after them
 pub notes_then : (xs ys : List Access) (l : List ℕ) (i : ℕ) {j r : ℕ} {m n : List ℕ}
     → (m ≡ noted l i xs) × (j ≡ i + length xs) → (n ≡ noted m j ys) × (r ≡ j + length ys)
     → (n ≡ noted l i (xs ++ ys)) × (r ≡ i + length (xs ++ ys))
-notes_then xs ys l i p q = (noted_then xs ys l i p.0 p.1 q.0, rw length-append (omega (arith, p.1, q.1)))
+notes_then xs ys l i p q = (q.0 ∙ rw (p.1, p.0) (sym (noted_append l i xs ys)), rw length-append (omega (arith, p.1, q.1)))
 
--- a list of accesses that equals the one whose entries were noted
-pub notes_as : (l : List ℕ) (i : ℕ) {xs ys : List Access} {n : List ℕ} {r : ℕ} → xs ≡ ys
-    → (n ≡ noted l i ys) × (r ≡ i + length ys) → (n ≡ noted l i xs) × (r ≡ i + length xs)
-notes_as l i e p = (p.0 ∙ ap (noted l i) (sym e), p.1 ∙ ap (λ (zs : List Access). i + length zs) (sym e))
+-- a log grows by no entries, and by some and then others
+pub grows_none : {a : BusLog} → Grows [] a a
+grows_none {a} = record { counted = λ _. (refl, sym (add-zero a.used)); lent = refl }
 
--- none
-pub notes_none : (l : List ℕ) (i : ℕ) {xs : List Access} → xs ≡ [] → (l ≡ noted l i xs) × (i ≡ i + length xs)
-notes_none l i e = notes_as l i e (refl, sym (add-zero i))
+pub grows_then : {xs ys : List Access} {a b c : BusLog} → Grows xs a b → Grows ys b c → Grows (xs ++ ys) a c
+grows_then {xs} {ys} {a} p q =
+    record {
+      counted = λ h.
+          let total : length (xs ++ ys) ≡ length xs + length ys = length-append xs ys in
+          let first = p.counted (omega (arith, h, total)) in
+          notes_then xs ys a.entries.now a.used first (q.counted (omega (arith, h, total, first.1)));
+      lent = q.lent ∙ p.lent;
+    }
+
+-- where there is room for the count, the entries are appended
+pub grows_appends : {l : List Access} {log : LentLog} → log.entry.now.used + length l < 0x10000000000000000 → Notes l log → Appends l log
+grows_appends h p =
+    let done = p.counted h in
+    record { entries = done.0; used = done.1; lent = p.lent }
+
+-- the accesses l that the code takes the coming step's to be are at most seven, so there is room for the count
+pub step_appends : (m : Lh5801) (inputs : Inputs) (pages : Pages) {log : LentLog} {l : List Access} → log.entry.now.used ≤ most
+    → step_accesses m pages ≡ l → Notes l log → Appends (completed_accesses (exec (step_of m inputs) pages)) log
+step_appends m inputs pages h e p =
+    let same = step_accesses_ahead m inputs pages ∙ e in
+    rw same (grows_appends (omega (arith, h, ap length same, completed_few m inputs pages)) p)
+
+-- the bytes that are left: the next one, and the others
+pub bytes_next : (pages : Pages) (a k i : ℕ) → i < k → read_of a (at pages a) ∷ bytes_from pages (up16 a) (k - (i + 1)) ≡ bytes_from pages a (k - i)
+bytes_next pages a k i h =
+    let e : k - i ≡ suc (k - (i + 1)) = omega (arith, h) in
+    rw e
 
 noted_sets : (log : List ℕ) (i : ℕ) (xs : List Access) → noted log i xs ≡ sets log i (map entry_of xs)
 noted_sets log i [] = refl

@@ -1,6 +1,17 @@
 -- Laws of choices by a test.
-use Rattle.std.proofs.Common.{◌≡◌, Bool, true, false, cond, ◌||◌, refl, true≢false}
+use Rattle.std.proofs.Common.{◌≡◌, ℕ, Bool, true, false, cond, ◌||◌, refl, true≢false}
 use mathlib.Core.Bool.{false≢true}
+use Rattle.pages.specs.declared.Memory.{Memory}
+use Rattle.pages.specs.Prog.{Prog, done, read, write, ◌>>=◌}
+use Rattle.pages.specs.Contract.{Does}
+use Rattle.pages.proofs.Does.{does_then, does_done}
+use Rattle.arithmetic.specs.declared.record.Lh5801.{Lh5801}
+use Rattle.arithmetic.specs.declared.Moved.{Moved}
+use Rattle.arithmetic.specs.Record.{with_a}
+use Rattle.arithmetic.specs.Shifts.{drl_moved, drr_moved}
+use Rattle.execution.specs.declared.places.Page.{Page}
+use Rattle.execution.specs.Places.{address_of}
+use Rattle.execution.specs.Instructions.{drr_of, drl_of}
 
 pub none_left : (a b : Bool) → a || b ≡ false → a ≡ false
 none_left true b e = e
@@ -22,3 +33,20 @@ cond_false false x y e = refl
 pub cond_both : {A : Type 0} (P : A → Type 0) (t : Bool) (x y : A) → P x → P y → P (cond t x y)
 cond_both P true x y h k = h
 cond_both P false x y h k = k
+
+-- one of two programs that differ in their last step
+pub either_end : {A B : Type 0} (t : Bool) (p : Prog A) (f g : A → B) {l n : Memory} {r : B}
+    → Does (p >>= (λ k. done (cond t (f k) (g k)))) l r n
+    → Does (cond t (p >>= (λ k. done (f k))) (p >>= (λ k. done (g k)))) l r n
+either_end true p f g d = d
+either_end false p f g d = d
+
+-- DRR or DRL
+pub either_rotated : (t : Bool) (m : Lh5801) (page : Page) {l p n : Memory} {b : ℕ} {moved : Moved} {u : Unit {0}}
+    → Does (read (address_of m.x page)) l b p
+    → moved ≡ cond t (drr_moved m.a b) (drl_moved m.a b)
+    → Does (write (address_of m.x page) moved.byte) p u n
+    → Does (cond t (drr_of m page) (drl_of m page)) l (with_a m moved.a) n
+unfolding drr_of drl_of
+either_rotated true m page d e w = does_then _ d (does_then _ (rw e at w) (does_done (rw e)))
+either_rotated false m page d e w = does_then _ d (does_then _ (rw e at w) (does_done (rw e)))

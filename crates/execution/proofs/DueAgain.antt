@@ -1,16 +1,14 @@
--- After a settled instruction and a timer part that does not reach 1FF an instruction is due again; TM stays at most 511.
-use Rattle.std.proofs.Common.{◌≡◌, ℕ, ◌<◌, true, false, sym, ap, ◌∙◌, subst}
+-- After a settled instruction and a timer part that does not reach 1FF an instruction is due again.
+use Rattle.std.proofs.Common.{◌≡◌, ℕ, true, false, sym, ap, ◌∙◌, subst}
 use Rattle.arithmetic.specs.declared.record.Lh5801.{Lh5801}
 use Rattle.arithmetic.specs.Record.{with_p}
-use Rattle.arithmetic.proofs.Status.{Status, status_of, with_timer, SameTimes, keeps_p}
-use Rattle.pages.specs.Stack.{accept_of}
+use Rattle.arithmetic.proofs.Status.{Status, status_of, with_timer, keeps_p}
 use Rattle.pages.specs.Timer.{add_state_of, timer_part_of}
 use Rattle.pages.specs.declared.Memory.{Memory}
 use Rattle.pages.specs.Prog.{Prog}
 use Rattle.pages.specs.Contract.{held, Does}
 use Rattle.pages.proofs.Always.{Always, always_exec}
-use Rattle.pages.proofs.Stack.{accept_times}
-use Rattle.pages.proofs.Timer.{timer_part_status, states_status, states_tm}
+use Rattle.pages.proofs.Timer.{timer_part_status, states_status}
 use Rattle.execution.specs.declared.Inputs.{Inputs}
 use Rattle.execution.specs.declared.instructions.Instruction.{Instruction}
 use Rattle.execution.specs.Instructions.{execute_of}
@@ -25,11 +23,6 @@ does_always P {l = l} p h d = subst P (sym d.value) (always_exec P p h (held l))
 module _ (m : Lh5801) (p : ℕ) (inputs : Inputs) (i : Instruction) (n : ℕ) {l q : Memory} {k : Lh5801} (d : Does (execute_of (with_p m p) inputs i) l k q) where
   after : Effect (with_p m p) (added_of (with_p m p) i) (settled_of i) k
   after = does_always _ (execute_of (with_p m p) inputs i) (executed (with_p m p) inputs i) d
-
-  states_small : m.tm < 512 → (add_state_of k n).tm < 512
-  states_small h =
-      subst (λ (n : ℕ). n < 512) (sym (states_tm k n))
-      (after.small (subst (λ (n : ℕ). n < 512) (sym (ap (λ (s : Status). s.tm) (keeps_p m p))) h))
 
   states_ready : settled_of i ≡ true → Ready m → Ready (add_state_of k n)
   states_ready s h =
@@ -58,14 +51,3 @@ pub again : (m : Lh5801) (p : ℕ) (inputs : Inputs) (i : Instruction) (n : ℕ)
 again m p inputs i n {k = k} {r = r} s h d e f c =
     let z : r ≡ timer_part_of (add_state_of k n) = f ∙ ap timer_part_of e in
     subst Ready (sym z) (timer_ready (add_state_of k n) (states_ready m p inputs i n d s h) (subst (λ (x : Lh5801). x.is_timer_reached ≡ false) z c))
-
--- and TM is at most 511 after an instruction, and after an accepted interrupt
-pub executed_small : (m : Lh5801) (p : ℕ) (inputs : Inputs) (i : Instruction) (n : ℕ) {l q : Memory} {k now : Lh5801}
-    → m.tm < 512
-    → Does (execute_of (with_p m p) inputs i) l k q
-    → now ≡ add_state_of k n
-    → now.tm < 512
-executed_small m p inputs i n h d e = subst (λ (x : Lh5801). x.tm < 512) (sym e) (states_small m p inputs i n d h)
-
-pub accept_small : (m : Lh5801) (vector : ℕ) {l q : Memory} {k : Lh5801} → m.tm < 512 → Does (accept_of m vector) l k q → k.tm < 512
-accept_small m vector h d = subst (λ (n : ℕ). n < 512) (sym (does_always (SameTimes m) (accept_of m vector) (accept_times m vector) d).tm) h

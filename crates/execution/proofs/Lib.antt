@@ -1,4 +1,3 @@
-pub mod Operands
 pub mod Table
 pub mod Listed
 pub mod Order
@@ -7,12 +6,10 @@ pub mod Effects
 pub mod Ways
 pub mod DueTest
 pub mod DueAgain
-pub mod Arms
 pub mod StepKeeps
 pub mod OpcodeRead
 pub mod StepStates
 pub mod Accesses
-pub mod Shapes
 pub mod AccessesAhead
 pub mod StopsClean
 pub mod Tests

@@ -8,7 +8,7 @@ use Rattle.arithmetic.specs.Shifts.{looped_of}
 use Rattle.arithmetic.specs.Record.{with_u, with_p, with_ir1, with_ir2, with_is_timer_reached}
 use Rattle.arithmetic.specs.Flags.{IE, has_flag}
 use Rattle.pages.specs.declared.Memory.{Memory}
-use Rattle.arithmetic.proofs.Status.{Status, requested, requested_back, requested_same, times_ir1, times_ir2}
+use Rattle.arithmetic.proofs.Status.{Status, requested, requested_back, requested_same}
 use Rattle.pages.specs.Prog.{done, mapped}
 use Rattle.pages.specs.Contract.{Does}
 use Rattle.pages.specs.Stack.{accept_of}
@@ -49,10 +49,6 @@ reached_stays m e = cond_false _ _ _ e
 -- timer reached moving to IR1 keeps TM
 pub reached_tm : (m : Lh5801) → (reached_of m).tm ≡ m.tm
 reached_tm m = reached_same m (λ k. k.tm) (ap (λ (s : Status). s.tm) (requested m true false).is)
-
--- and so does clearing the request that is accepted
-pub acknowledged_tm : (m : Lh5801) → (cond m.ir1 (with_ir1 m false) (with_ir2 m false)).tm ≡ m.tm
-acknowledged_tm m = cond_both (λ (k : Lh5801). k.tm ≡ m.tm) m.ir1 _ _ (times_ir1 m false).tm (times_ir2 m false).tm
 
 -- timer reached moving to IR1 does not change the test
 test_moved : (bf ir0 ir1 ir2 e h : Bool) → due_by bf ir0 true false ir2 e h ≡ due_by bf ir0 ir1 true ir2 e h

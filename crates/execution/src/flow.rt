@@ -7,7 +7,7 @@ use crate::instructions::{Condition, Direction};
 use arithmetic::record::Lh5801;
 use pages::Memory;
 
-fn holds(t: u8, c: Condition) -> bool
+pub fn holds(t: u8, c: Condition) -> bool
     ensures { result ≡ holds_of t c }
 {
     match c {
@@ -27,16 +27,11 @@ fn holds(t: u8, c: Condition) -> bool
 fn branched(cpu: Lh5801, p: u16, offset: u8, direction: Direction) -> Lh5801
     ensures { result ≡ branched_of cpu p offset direction }
 {
-    match direction {
-        Direction::Forward => {
-            let to = p.wrapping_add(u16::from(offset));
-            pages::add_state(cpu.with_p(to), 2)
-        }
-        Direction::Backward => {
-            let to = p.wrapping_sub(u16::from(offset));
-            pages::add_state(cpu.with_p(to), 3)
-        }
-    }
+    let (to, states) = match direction {
+        Direction::Forward => (p.wrapping_add(u16::from(offset)), 2),
+        Direction::Backward => (p.wrapping_sub(u16::from(offset)), 3),
+    };
+    pages::add_state(cpu.with_p(to), states)
 }
 
 pub fn branch(cpu: Lh5801, memory: &Memory, c: Condition, direction: Direction) -> Lh5801
@@ -69,7 +64,7 @@ pub fn vector(cpu: Lh5801, memory: &mut Memory, nr: u8) -> Lh5801
     ensures { Changes (vector_of cpu nr) memory result }
 {
     let pushed = pages::push_word(cpu, memory, cpu.p);
-    let at = memory.get_mem16(0xff00 + nr as u16);
+    let at = memory.get_mem16(0xff00 + u16::from(nr));
     let t = arithmetic::set_flag(cpu.t, arithmetic::ZF, false);
     pages::add_state(pushed.with_p(at).with_t(t), 13)
 }
@@ -113,6 +108,6 @@ pub fn rti(cpu: Lh5801, memory: &Memory) -> Lh5801
 {
     let w = pages::pop_word(cpu.s, memory);
     let s = w.s.wrapping_add(1);
-    let t = memory.read_byte(s as u32);
+    let t = memory.read_byte(u32::from(s));
     cpu.with_p(w.value).with_s(s).with_t(t)
 }

@@ -4,24 +4,25 @@
 ghost use Rattle.std.specs.Prelude.{◌≡◌, ◌<◌, true, false, if◌then◌else◌};
 ghost use Rattle.arithmetic.specs.Record.{with_ir1, with_ir2};
 ghost use Rattle.pages.specs.Prog.{mapped};
+ghost use Rattle.pages.specs.Stack.{accept_of};
 ghost use Rattle.pages.specs.Contract.{Changes, Reads};
 ghost use Rattle.execution.specs.Instructions.{execute_of};
 ghost use Rattle.execution.specs.Step.{fetch_of, decoded_by, reached_of, step_of};
 ghost use Rattle.execution.specs.Code.Outcomes.{outcome_of};
-ghost use Rattle.execution.specs.Code.Due.{due_of, Ready, settled_on_a, settled_signal, settled_of, executed_of, DueAgain};
+ghost use Rattle.execution.specs.Code.Due.{due_of, Ready, settled_of, executed_of, DueAgain};
 ghost use Rattle.execution.specs.Inputs.{of_keyboard};
 
 use crate::instructions::{Accumulator, Instruction, Listed, Signal};
 use arithmetic::record::Lh5801;
 use pages::{Code, Memory};
 
-pub mod entries;
 pub mod flow;
 pub mod instructions;
 pub mod opcodes;
 pub mod opcodes_fd;
 pub mod operations;
 pub mod places;
+pub mod shapes;
 pub mod transfers;
 
 // What a step is given besides the record and the pages.
@@ -65,7 +66,7 @@ pub enum Executed {
     Completed(Lh5801),
 }
 
-#[tactic(auto, unfolding(crate::specs::Instructions::execute_of))]
+#[tactic(auto, using(pages::proofs::Does::does_done), unfolding(crate::specs::Instructions::execute_of))]
 pub fn execute(cpu: Lh5801, memory: &mut Memory, inputs: Inputs, i: Instruction) -> Lh5801
     ensures { Changes (execute_of cpu inputs i) memory result }
 {
@@ -74,18 +75,18 @@ pub fn execute(cpu: Lh5801, memory: &mut Memory, inputs: Inputs, i: Instruction)
         Instruction::Sta(place) => operations::sta(cpu, memory, place),
         Instruction::Memory(o, place) => operations::memory(cpu, memory, o, place),
         Instruction::Bii(place) => operations::bii(cpu, memory, place),
-        Instruction::Drr(page) => operations::drr(cpu, memory, page),
-        Instruction::Drl(page) => operations::drl(cpu, memory, page),
+        Instruction::Drr(page) => operations::rotate::<true>(cpu, memory, page),
+        Instruction::Drl(page) => operations::rotate::<false>(cpu, memory, page),
         Instruction::Load(h) => operations::load(cpu, memory, h),
         Instruction::Compare(h) => operations::compare(cpu, memory, h),
-        Instruction::Inc(h) => operations::inc_half(cpu, h),
-        Instruction::Dec(h) => operations::dec_half(cpu, h),
-        Instruction::IncWord(r) => transfers::inc_word(cpu, r),
-        Instruction::DecWord(r) => transfers::dec_word(cpu, r),
-        Instruction::Sin(r) => transfers::sin(cpu, memory, r),
-        Instruction::Sde(r) => transfers::sde(cpu, memory, r),
-        Instruction::Lin(r) => transfers::lin(cpu, memory, r),
-        Instruction::Lde(r) => transfers::lde(cpu, memory, r),
+        Instruction::Inc(h) => operations::count_half::<true>(cpu, h),
+        Instruction::Dec(h) => operations::count_half::<false>(cpu, h),
+        Instruction::IncWord(r) => transfers::count_word::<true>(cpu, r),
+        Instruction::DecWord(r) => transfers::count_word::<false>(cpu, r),
+        Instruction::Sin(r) => transfers::store_and_count::<true>(cpu, memory, r),
+        Instruction::Sde(r) => transfers::store_and_count::<false>(cpu, memory, r),
+        Instruction::Lin(r) => transfers::load_and_count::<true>(cpu, memory, r),
+        Instruction::Lde(r) => transfers::load_and_count::<false>(cpu, memory, r),
         Instruction::Branch(direction, c) => flow::branch(cpu, memory, c, direction),
         Instruction::Lop => flow::lop(cpu, memory),
         Instruction::VectorIf(c) => flow::vector_if(cpu, memory, c),
@@ -114,7 +115,7 @@ pub fn execute(cpu: Lh5801, memory: &mut Memory, inputs: Inputs, i: Instruction)
     }
 }
 
-fn fetch(p: u16, memory: &Memory) -> Code<Opcode>
+pub fn fetch(p: u16, memory: &Memory) -> Code<Opcode>
     ensures { Reads (fetch_of p) memory result }
 {
     let first = memory.cpu_readop(p);
@@ -140,43 +141,23 @@ fn decode(opcode: Opcode) -> Option<Listed>
     }
 }
 
-// Does an operation on A keep IE?
-fn settled_on_a(o: Accumulator) -> bool
-    ensures { result ≡ settled_on_a o }
-{
-    match o {
-        Accumulator::Att => false,
-        _ => true,
-    }
-}
-
-// Does a signal?
-fn settled_signal(s: Signal) -> bool
-    ensures { result ≡ settled_signal s }
-{
-    match s {
-        Signal::InterruptEnable => false,
-        _ => true,
-    }
-}
-
 // Does an instruction keep BF, halted and IE?
 fn settled(i: Instruction) -> bool
     ensures { result ≡ settled_of i }
 {
-    match i {
-        Instruction::Rti => false,
-        Instruction::OnA(o) => settled_on_a(o),
-        Instruction::Sets(s, value) => settled_signal(s),
-        Instruction::Off => false,
-        Instruction::Hlt => false,
-        _ => true,
-    }
+    !matches!(
+        i,
+        Instruction::Rti
+            | Instruction::Off
+            | Instruction::Hlt
+            | Instruction::OnA(Accumulator::Att)
+            | Instruction::Sets(Signal::InterruptEnable, _)
+    )
 }
 
 // The step of an instruction that is due: the record after it, and whether an instruction is due again; or the stop of an unlisted byte.
 pub fn instruction(cpu: Lh5801, memory: &mut Memory, inputs: Inputs) -> Result<Executed, Stop>
-    requires { (cpu.tm < 512) × Ready cpu }
+    requires { Ready cpu }
     ensures { Changes (mapped executed_of (step_of cpu inputs)) memory result × DueAgain result }
 {
     let opcode = fetch(cpu.p, memory);
@@ -198,6 +179,7 @@ pub fn instruction(cpu: Lh5801, memory: &mut Memory, inputs: Inputs) -> Result<E
 }
 
 // Timer reached moves to IR1.
+#[tactic(auto, unfolding(crate::specs::Step::reached_of))]
 pub fn reached(cpu: Lh5801) -> Lh5801
     ensures { result ≡ reached_of cpu }
 {
@@ -208,37 +190,28 @@ pub fn reached(cpu: Lh5801) -> Lh5801
     }
 }
 
-// Where an enabled request leads: IR1 goes before IR2.
-fn interrupt_vector(cpu: Lh5801) -> u16
-    ensures { result ≡ (if cpu.ir1 then 0xFFFA else 0xFFF8) }
-{
-    if cpu.ir1 { 0xfffa } else { 0xfff8 }
-}
-
-// The record without that request.
-fn acknowledged(cpu: Lh5801) -> Lh5801
-    ensures { result ≡ (if cpu.ir1 then with_ir1 cpu false else with_ir2 cpu false) }
+// An enabled request is accepted: IR1 goes before IR2.
+fn accepted(cpu: Lh5801, memory: &mut Memory) -> Lh5801
+    ensures { Changes (accept_of (if cpu.ir1 then with_ir1 cpu false else with_ir2 cpu false) (if cpu.ir1 then 0xFFFA else 0xFFF8)) memory result }
 {
     if cpu.ir1 {
-        cpu.with_ir1(false)
+        pages::accept(cpu.with_ir1(false), memory, 0xfffa)
     } else {
-        cpu.with_ir2(false)
+        pages::accept(cpu.with_ir2(false), memory, 0xfff8)
     }
 }
 
 // A step with BF set and timer reached clear in which no instruction is due.
 #[tactic(auto, using(crate::proofs::Order::step_halted, crate::proofs::Order::step_waiting))]
 fn powered_step(cpu: Lh5801, memory: &mut Memory, inputs: Inputs) -> Result<Lh5801, Stop>
-    requires { (cpu.tm < 512) × (cpu.bf ≡ true) × (cpu.is_timer_reached ≡ false) × (due_of cpu ≡ false) }
+    requires { (cpu.bf ≡ true) × (cpu.is_timer_reached ≡ false) × (due_of cpu ≡ false) }
     ensures { Changes (mapped outcome_of (step_of cpu inputs)) memory result }
 {
     if cpu.ir0 {
         return Ok(pages::timer_part(cpu));
     }
     if (cpu.ir1 | cpu.ir2) & arithmetic::get_flag(cpu.t, arithmetic::IE) {
-        let at = interrupt_vector(cpu);
-        let next = pages::accept(acknowledged(cpu), memory, at);
-        return Ok(pages::timer_part(next));
+        return Ok(pages::timer_part(accepted(cpu, memory)));
     }
     // Halted.
     if inputs.idle == 0 {
@@ -258,8 +231,9 @@ pub fn due(cpu: Lh5801) -> bool
 }
 
 // One step in which no instruction is due.
+#[tactic(auto, using(crate::proofs::Order::reached_bf, crate::proofs::Order::reached_clear, crate::proofs::Order::reached_due, crate::proofs::Order::step_reached, crate::proofs::Order::step_off))]
 pub fn step_cpu(cpu: Lh5801, memory: &mut Memory, inputs: Inputs) -> Result<Lh5801, Stop>
-    requires { (cpu.tm < 512) × (due_of cpu ≡ false) }
+    requires { due_of cpu ≡ false }
     ensures { Changes (mapped outcome_of (step_of cpu inputs)) memory result }
 {
     if cpu.bf {

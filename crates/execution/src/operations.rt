@@ -1,5 +1,5 @@
 // Operations on an operand's place: A with a byte, stores, memory bytes with an immediate, moves of digits, halves.
-ghost use Rattle.std.specs.Prelude.{◌≡◌};
+ghost use Rattle.std.specs.Prelude.{◌≡◌, if◌then◌else◌};
 ghost use Rattle.pages.specs.Contract.{Changes, Reads};
 ghost use Rattle.execution.specs.Instructions.{operated, alu_of, store_of, sta_of, changed_of, memory_of, bii_of, drr_of, drl_of, load_of, compare_of, inc_half_of, dec_half_of};
 
@@ -30,7 +30,7 @@ fn operate(cpu: Lh5801, o: Operation, v: u8) -> Lh5801
 pub fn alu(cpu: Lh5801, memory: &Memory, o: Operation, place: Place) -> Lh5801
     ensures { Reads (alu_of cpu o place) memory result }
 {
-    let f = places::operand(places::word_at(cpu, place), cpu.p, memory, place);
+    let f = places::operand(cpu, memory, place);
     operate(cpu.with_p(f.p), o, f.value)
 }
 
@@ -38,12 +38,13 @@ pub fn alu(cpu: Lh5801, memory: &Memory, o: Operation, place: Place) -> Lh5801
 fn store(cpu: Lh5801, memory: &mut Memory, place: Place) -> Lh5801
     ensures { Changes (store_of cpu place) memory result }
 {
-    let l = places::locate(places::word_at(cpu, place), cpu.p, memory, place);
-    memory.write_byte(l.addr, cpu.a);
+    let l = places::locate(cpu, memory, place);
+    memory.write_byte(l.value, cpu.a);
     cpu.with_p(l.p)
 }
 
 // A to a half or to memory.
+#[tactic(auto, using(pages::proofs::Does::does_done), unfolding(crate::specs::Instructions::sta_of))]
 pub fn sta(cpu: Lh5801, memory: &mut Memory, place: Place) -> Lh5801
     ensures { Changes (sta_of cpu place) memory result }
 {
@@ -58,20 +59,14 @@ fn changed(t: u8, o: Change, byte: u8, v: u8) -> arithmetic::Sum<u8>
     ensures { result ≡ changed_of t o byte v }
 {
     match o {
-        Change::Ani => {
-            let flags = arithmetic::check_z(t, byte & v);
-            arithmetic::Sum {
-                value: byte & v,
-                t: flags,
-            }
-        }
-        Change::Ori => {
-            let flags = arithmetic::check_z(t, byte | v);
-            arithmetic::Sum {
-                value: byte | v,
-                t: flags,
-            }
-        }
+        Change::Ani => arithmetic::Sum {
+            value: byte & v,
+            t: arithmetic::check_z(t, byte & v),
+        },
+        Change::Ori => arithmetic::Sum {
+            value: byte | v,
+            t: arithmetic::check_z(t, byte | v),
+        },
         Change::Adi => arithmetic::add_generic(t, byte, v, false),
     }
 }
@@ -80,11 +75,11 @@ fn changed(t: u8, o: Change, byte: u8, v: u8) -> arithmetic::Sum<u8>
 pub fn memory(cpu: Lh5801, memory: &mut Memory, o: Change, place: Place) -> Lh5801
     ensures { Changes (memory_of cpu o place) memory result }
 {
-    let l = places::locate(places::word_at(cpu, place), cpu.p, memory, place);
+    let l = places::locate(cpu, memory, place);
     let imm = memory.cpu_readop(l.p);
-    let b = memory.read_byte(l.addr);
+    let b = memory.read_byte(l.value);
     let s = changed(cpu.t, o, b, imm.value);
-    memory.write_byte(l.addr, s.value);
+    memory.write_byte(l.value, s.value);
     cpu.with_p(imm.p).with_t(s.t)
 }
 
@@ -92,28 +87,23 @@ pub fn memory(cpu: Lh5801, memory: &mut Memory, o: Change, place: Place) -> Lh58
 pub fn bii(cpu: Lh5801, memory: &Memory, place: Place) -> Lh5801
     ensures { Reads (bii_of cpu place) memory result }
 {
-    let l = places::locate(places::word_at(cpu, place), cpu.p, memory, place);
-    let b = memory.read_byte(l.addr);
+    let l = places::locate(cpu, memory, place);
+    let b = memory.read_byte(l.value);
     let imm = memory.cpu_readop(l.p);
     arithmetic::bit(cpu.with_p(imm.p), b, imm.value)
 }
 
-pub fn drr(cpu: Lh5801, memory: &mut Memory, page: Page) -> Lh5801
-    ensures { Changes (drr_of cpu page) memory result }
+// DRR and DRL: the digits of A and of the byte that X points to.
+pub fn rotate<const RIGHT: bool>(cpu: Lh5801, memory: &mut Memory, page: Page) -> Lh5801
+    ensures { Changes (if RIGHT then drr_of cpu page else drl_of cpu page) memory result }
 {
     let at = places::paged(cpu.x, page);
     let b = memory.read_byte(at);
-    let moved = arithmetic::drr(cpu.a, b);
-    memory.write_byte(at, moved.byte);
-    cpu.with_a(moved.a)
-}
-
-pub fn drl(cpu: Lh5801, memory: &mut Memory, page: Page) -> Lh5801
-    ensures { Changes (drl_of cpu page) memory result }
-{
-    let at = places::paged(cpu.x, page);
-    let b = memory.read_byte(at);
-    let moved = arithmetic::drl(cpu.a, b);
+    let moved = if RIGHT {
+        arithmetic::drr(cpu.a, b)
+    } else {
+        arithmetic::drl(cpu.a, b)
+    };
     memory.write_byte(at, moved.byte);
     cpu.with_a(moved.a)
 }
@@ -135,16 +125,16 @@ pub fn compare(cpu: Lh5801, memory: &Memory, h: Half) -> Lh5801
     arithmetic::cpa(cpu.with_p(f.p), left, f.value)
 }
 
-pub fn inc_half(cpu: Lh5801, h: Half) -> Lh5801
-    ensures { result ≡ inc_half_of cpu h }
+// INC and DEC of a half.
+#[tactic(auto, unfolding(crate::specs::Instructions::inc_half_of, crate::specs::Instructions::dec_half_of))]
+pub fn count_half<const UP: bool>(cpu: Lh5801, h: Half) -> Lh5801
+    ensures { result ≡ (if UP then inc_half_of cpu h else dec_half_of cpu h) }
 {
-    let s = arithmetic::inc(cpu.t, places::get_half(cpu, h));
-    places::set_half(cpu.with_t(s.t), h, s.value)
-}
-
-pub fn dec_half(cpu: Lh5801, h: Half) -> Lh5801
-    ensures { result ≡ dec_half_of cpu h }
-{
-    let s = arithmetic::dec(cpu.t, places::get_half(cpu, h));
+    let v = places::get_half(cpu, h);
+    let s = if UP {
+        arithmetic::inc(cpu.t, v)
+    } else {
+        arithmetic::dec(cpu.t, v)
+    };
     places::set_half(cpu.with_t(s.t), h, s.value)
 }

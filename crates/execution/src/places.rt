@@ -1,8 +1,7 @@
 // Operand places.
 ghost use Rattle.std.specs.Prelude.{◌≡◌};
 ghost use Rattle.pages.specs.Contract.{Reads};
-ghost use Rattle.execution.specs.Places.{word_in, with_word, half_in, with_half, address_of};
-ghost use Rattle.execution.specs.Code.Operands.{chosen, register_of, register_at, half_of, fixed_at, locate_at, operand_at};
+ghost use Rattle.execution.specs.Places.{word_in, with_word, half_in, with_half, address_of, locate_of, operand_of};
 
 use arithmetic::record::Lh5801;
 use pages::{Code, Memory};
@@ -40,74 +39,42 @@ pub enum Place {
     InCode,
 }
 
-// An address, and P after it was found.
-#[derive(Clone, Copy)]
-pub struct Located {
-    pub addr: u32,
-    pub p: u16,
-}
-
-// One of three words, by the register.
-fn choose(r: Register, x: u16, y: u16, u: u16) -> u16
-    ensures { result ≡ chosen x y u r }
-{
-    if let Register::X = r {
-        x
-    } else {
-        if let Register::Y = r { y } else { u }
-    }
-}
-
 pub fn get_word(cpu: Lh5801, r: Register) -> u16
     ensures { result ≡ word_in cpu r }
 {
-    choose(r, cpu.x, cpu.y, cpu.u)
+    match r {
+        Register::X => cpu.x,
+        Register::Y => cpu.y,
+        Register::U => cpu.u,
+    }
 }
 
 pub fn set_word(cpu: Lh5801, r: Register, w: u16) -> Lh5801
     ensures { result ≡ with_word cpu r w }
 {
-    let x = choose(r, w, cpu.x, cpu.x);
-    let y = choose(r, cpu.y, w, cpu.y);
-    let u = choose(r, cpu.u, cpu.u, w);
-    cpu.with_x(x).with_y(y).with_u(u)
-}
-
-fn register_of(h: Half) -> Register
-    ensures { result ≡ register_of h }
-{
-    match h {
-        Half::High(r) => r,
-        Half::Low(r) => r,
-        Half::Missing => Register::X,
-    }
-}
-
-// The byte of a half of a word.
-fn half_of(w: u16, h: Half) -> u8
-    ensures { result ≡ half_of w h }
-{
-    match h {
-        Half::High(r) => (w / 256) as u8,
-        Half::Low(r) => (w % 256) as u8,
-        Half::Missing => 0,
+    match r {
+        Register::X => cpu.with_x(w),
+        Register::Y => cpu.with_y(w),
+        Register::U => cpu.with_u(w),
     }
 }
 
 pub fn get_half(cpu: Lh5801, h: Half) -> u8
     ensures { result ≡ half_in cpu h }
 {
-    let r = register_of(h);
-    let w = get_word(cpu, r);
-    half_of(w, h)
+    match h {
+        Half::High(r) => get_word(cpu, r).to_be_bytes()[0],
+        Half::Low(r) => get_word(cpu, r).to_be_bytes()[1],
+        Half::Missing => 0,
+    }
 }
 
 pub fn set_half(cpu: Lh5801, h: Half, v: u8) -> Lh5801
     ensures { result ≡ with_half cpu h v }
 {
     match h {
-        Half::High(r) => set_word(cpu, r, v as u16 * 256 + get_word(cpu, r) % 256),
-        Half::Low(r) => set_word(cpu, r, get_word(cpu, r) / 256 * 256 + v as u16),
+        Half::High(r) => set_word(cpu, r, pages::word(v, get_half(cpu, Half::Low(r)))),
+        Half::Low(r) => set_word(cpu, r, pages::word(get_half(cpu, Half::High(r)), v)),
         Half::Missing => cpu,
     }
 }
@@ -116,74 +83,54 @@ pub fn paged(addr: u16, page: Page) -> u32
     ensures { result ≡ address_of addr page }
 {
     match page {
-        Page::Me0 => addr as u32,
+        Page::Me0 => u32::from(addr),
         Page::Me1 => pages::me1(addr),
     }
 }
 
-fn fixed(p: u16, memory: &Memory, page: Page) -> Located
-    ensures { Reads (fixed_at p page) memory result }
-{
-    let w = memory.readop_word(p);
-    let at = paged(w.value, page);
-    Located { addr: at, p: w.p }
-}
-
-// The address of a place in memory; a half and a byte in the code have none, and no instruction
-// asks for it. at is the word of its register.
-pub fn locate(at: u16, p: u16, memory: &Memory, place: Place) -> Located
-    ensures { Reads (locate_at at p place) memory result }
+// The address of a place in memory, and P after it was found; a half and a byte in the code have none, and no instruction
+// asks for it.
+#[tactic(auto, using(pages::proofs::Does::does_done, pages::proofs::Does::does_then), unfolding(crate::specs::Places::locate_of))]
+pub fn locate(cpu: Lh5801, memory: &Memory, place: Place) -> Code<u32>
+    ensures { Reads (locate_of cpu place) memory result }
 {
     match place {
-        Place::Pointer(page, r) => {
-            let addr = paged(at, page);
-            Located { addr: addr, p: p }
-        }
-        Place::Fixed(page) => fixed(p, memory, page),
-        Place::InHalf(h) => Located { addr: 0, p: p },
-        Place::InCode => Located { addr: 0, p: p },
-    }
-}
-
-// The register of a place, X where it has none.
-fn register_at(place: Place) -> Register
-    ensures { result ≡ register_at place }
-{
-    match place {
-        Place::Pointer(page, r) => r,
-        Place::InHalf(h) => register_of(h),
-        Place::Fixed(page) => Register::X,
-        Place::InCode => Register::X,
-    }
-}
-
-// The word of the register of a place.
-pub fn word_at(cpu: Lh5801, place: Place) -> u16
-    ensures { result ≡ word_in cpu (register_at place) }
-{
-    let r = register_at(place);
-    get_word(cpu, r)
-}
-
-// The byte of a place, and P after it was read. at is the word of its register.
-pub fn operand(at: u16, p: u16, memory: &Memory, place: Place) -> Code<u8>
-    ensures { Reads (operand_at at p place) memory result }
-{
-    match place {
-        Place::Pointer(page, r) => {
-            let addr = paged(at, page);
-            let b = memory.read_byte(addr);
-            Code { value: b, p: p }
-        }
+        Place::Pointer(page, r) => Code {
+            value: paged(get_word(cpu, r), page),
+            p: cpu.p,
+        },
         Place::Fixed(page) => {
-            let l = fixed(p, memory, page);
-            let b = memory.read_byte(l.addr);
-            Code { value: b, p: l.p }
+            let w = memory.readop_word(cpu.p);
+            Code {
+                value: paged(w.value, page),
+                p: w.p,
+            }
         }
-        Place::InCode => memory.cpu_readop(p),
-        Place::InHalf(h) => {
-            let b = half_of(at, h);
-            Code { value: b, p: p }
+        Place::InHalf(_) | Place::InCode => Code { value: 0, p: cpu.p },
+    }
+}
+
+// The byte of a place, and P after it was read.
+#[tactic(auto, using(pages::proofs::Does::does_done, pages::proofs::Does::does_then), unfolding(crate::specs::Places::operand_of))]
+pub fn operand(cpu: Lh5801, memory: &Memory, place: Place) -> Code<u8>
+    ensures { Reads (operand_of cpu place) memory result }
+{
+    match place {
+        Place::InHalf(h) => Code {
+            value: get_half(cpu, h),
+            p: cpu.p,
+        },
+        Place::Pointer(page, r) => Code {
+            value: memory.read_byte(paged(get_word(cpu, r), page)),
+            p: cpu.p,
+        },
+        Place::Fixed(page) => {
+            let w = memory.readop_word(cpu.p);
+            Code {
+                value: memory.read_byte(paged(w.value, page)),
+                p: w.p,
+            }
         }
+        Place::InCode => memory.cpu_readop(cpu.p),
     }
 }

@@ -1,8 +1,8 @@
 // Register pairs, transfers through them, the stack's instructions, A alone, lines and flags.
-ghost use Rattle.std.specs.Prelude.{◌≡◌};
+ghost use Rattle.std.specs.Prelude.{◌≡◌, if◌then◌else◌};
 ghost use Rattle.pages.specs.Contract.{Changes, Reads};
 ghost use Rattle.arithmetic.specs.Sums.{inc_of, dec_of, with_sum};
-ghost use Rattle.execution.specs.Instructions.{inc_word_of, dec_word_of, store_at_of, load_at_of, sin_of, sde_of, lin_of, lde_of, load_sOf, tin_of, cin_of, on_aOf, signal_of, pop_to_of, push_from_of, to_xOf, from_xOf, adr_in_of, cdv_of, drop_word_of};
+ghost use Rattle.execution.specs.Instructions.{inc_word_of, dec_word_of, sin_of, sde_of, lin_of, lde_of, load_sOf, tin_of, cin_of, on_aOf, signal_of, pop_to_of, push_from_of, to_xOf, from_xOf, adr_in_of, cdv_of, drop_word_of};
 
 use crate::instructions::{Accumulator, Signal, Word};
 use crate::places;
@@ -10,60 +10,36 @@ use crate::places::Register;
 use arithmetic::record::Lh5801;
 use pages::Memory;
 
-pub fn inc_word(cpu: Lh5801, r: Register) -> Lh5801
-    ensures { result ≡ inc_word_of cpu r }
+// A pair, up or down by one.
+#[tactic(auto, unfolding(crate::specs::Instructions::inc_word_of, crate::specs::Instructions::dec_word_of))]
+pub fn count_word<const UP: bool>(cpu: Lh5801, r: Register) -> Lh5801
+    ensures { result ≡ (if UP then inc_word_of cpu r else dec_word_of cpu r) }
 {
     let w = places::get_word(cpu, r);
-    places::set_word(cpu, r, w.wrapping_add(1))
+    let next = if UP {
+        w.wrapping_add(1)
+    } else {
+        w.wrapping_sub(1)
+    };
+    places::set_word(cpu, r, next)
 }
 
-pub fn dec_word(cpu: Lh5801, r: Register) -> Lh5801
-    ensures { result ≡ dec_word_of cpu r }
+// SIN and SDE: A to the byte that a pair points to, and the pair up or down.
+pub fn store_and_count<const UP: bool>(cpu: Lh5801, memory: &mut Memory, r: Register) -> Lh5801
+    ensures { Changes (if UP then sin_of cpu r else sde_of cpu r) memory result }
 {
     let w = places::get_word(cpu, r);
-    places::set_word(cpu, r, w.wrapping_sub(1))
+    memory.write_byte(u32::from(w), cpu.a);
+    count_word::<UP>(cpu, r)
 }
 
-// A to the byte that a pair points to.
-fn store_at(cpu: Lh5801, memory: &mut Memory, r: Register) -> Lh5801
-    ensures { Changes (store_at_of cpu r) memory result }
+// LIN and LDE: A from the byte that a pair points to, and the pair up or down.
+pub fn load_and_count<const UP: bool>(cpu: Lh5801, memory: &Memory, r: Register) -> Lh5801
+    ensures { Reads (if UP then lin_of cpu r else lde_of cpu r) memory result }
 {
     let w = places::get_word(cpu, r);
-    memory.write_byte(w as u32, cpu.a);
-    cpu
-}
-
-// A from the byte that a pair points to.
-fn load_at(cpu: Lh5801, memory: &Memory, r: Register) -> Lh5801
-    ensures { Reads (load_at_of cpu r) memory result }
-{
-    let w = places::get_word(cpu, r);
-    let b = memory.read_byte(w as u32);
-    arithmetic::lda(cpu, b)
-}
-
-pub fn sin(cpu: Lh5801, memory: &mut Memory, r: Register) -> Lh5801
-    ensures { Changes (sin_of cpu r) memory result }
-{
-    inc_word(store_at(cpu, memory, r), r)
-}
-
-pub fn sde(cpu: Lh5801, memory: &mut Memory, r: Register) -> Lh5801
-    ensures { Changes (sde_of cpu r) memory result }
-{
-    dec_word(store_at(cpu, memory, r), r)
-}
-
-pub fn lin(cpu: Lh5801, memory: &Memory, r: Register) -> Lh5801
-    ensures { Reads (lin_of cpu r) memory result }
-{
-    inc_word(load_at(cpu, memory, r), r)
-}
-
-pub fn lde(cpu: Lh5801, memory: &Memory, r: Register) -> Lh5801
-    ensures { Reads (lde_of cpu r) memory result }
-{
-    dec_word(load_at(cpu, memory, r), r)
+    let b = memory.read_byte(u32::from(w));
+    count_word::<UP>(arithmetic::lda(cpu, b), r)
 }
 
 // S from the code.
@@ -78,8 +54,8 @@ pub fn load_s(cpu: Lh5801, memory: &Memory) -> Lh5801
 pub fn tin(cpu: Lh5801, memory: &mut Memory) -> Lh5801
     ensures { Changes (tin_of cpu) memory result }
 {
-    let b = memory.read_byte(cpu.x as u32);
-    memory.write_byte(cpu.y as u32, b);
+    let b = memory.read_byte(u32::from(cpu.x));
+    memory.write_byte(u32::from(cpu.y), b);
     let x = cpu.x.wrapping_add(1);
     let y = cpu.y.wrapping_add(1);
     cpu.with_x(x).with_y(y)
@@ -89,22 +65,20 @@ pub fn tin(cpu: Lh5801, memory: &mut Memory) -> Lh5801
 pub fn cin(cpu: Lh5801, memory: &Memory) -> Lh5801
     ensures { Reads (cin_of cpu) memory result }
 {
-    let b = memory.read_byte(cpu.x as u32);
+    let b = memory.read_byte(u32::from(cpu.x));
     let x = cpu.x.wrapping_add(1);
     arithmetic::cpa(cpu.with_x(x), cpu.a, b)
 }
 
-fn inc_a(cpu: Lh5801) -> Lh5801
-    ensures { result ≡ with_sum cpu (inc_of cpu.t cpu.a) }
+// INC and DEC of A.
+fn count_a<const UP: bool>(cpu: Lh5801) -> Lh5801
+    ensures { result ≡ with_sum cpu (if UP then inc_of cpu.t cpu.a else dec_of cpu.t cpu.a) }
 {
-    let s = arithmetic::inc(cpu.t, cpu.a);
-    cpu.with_a(s.value).with_t(s.t)
-}
-
-fn dec_a(cpu: Lh5801) -> Lh5801
-    ensures { result ≡ with_sum cpu (dec_of cpu.t cpu.a) }
-{
-    let s = arithmetic::dec(cpu.t, cpu.a);
+    let s = if UP {
+        arithmetic::inc(cpu.t, cpu.a)
+    } else {
+        arithmetic::dec(cpu.t, cpu.a)
+    };
     cpu.with_a(s.value).with_t(s.t)
 }
 
@@ -113,8 +87,8 @@ pub fn accumulator(cpu: Lh5801, i: Accumulator, keyboard: u8) -> Lh5801
     ensures { result ≡ on_aOf cpu i keyboard }
 {
     match i {
-        Accumulator::IncA => inc_a(cpu),
-        Accumulator::DecA => dec_a(cpu),
+        Accumulator::IncA => count_a::<true>(cpu),
+        Accumulator::DecA => count_a::<false>(cpu),
         Accumulator::Ror => arithmetic::ror(cpu),
         Accumulator::Shr => arithmetic::shr(cpu),
         Accumulator::Shl => arithmetic::shl(cpu),
@@ -123,8 +97,8 @@ pub fn accumulator(cpu: Lh5801, i: Accumulator, keyboard: u8) -> Lh5801
         Accumulator::Tta => arithmetic::tta(cpu),
         Accumulator::Att => cpu.with_t(cpu.a & 0x1f),
         Accumulator::Ita => arithmetic::lda(cpu, keyboard),
-        Accumulator::Am0 => cpu.with_tm(cpu.a as u16),
-        Accumulator::Am1 => cpu.with_tm(cpu.a as u16 + 256),
+        Accumulator::Am0 => cpu.with_tm(u16::from(cpu.a)),
+        Accumulator::Am1 => cpu.with_tm(u16::from(cpu.a) + 256),
     }
 }
 
@@ -150,6 +124,7 @@ pub fn pop_to(cpu: Lh5801, memory: &Memory, r: Register) -> Lh5801
 }
 
 // A pair to the stack.
+#[tactic(auto, unfolding(crate::specs::Instructions::push_from_of))]
 pub fn push_from(cpu: Lh5801, memory: &mut Memory, r: Register) -> Lh5801
     ensures { Changes (push_from_of cpu r) memory result }
 {
@@ -180,6 +155,7 @@ pub fn from_x(cpu: Lh5801, w: Word) -> Lh5801
 }
 
 // A pair and A, with T as it was.
+#[tactic(auto, unfolding(crate::specs::Instructions::adr_in_of))]
 pub fn adr(cpu: Lh5801, r: Register) -> Lh5801
     ensures { result ≡ adr_in_of cpu r }
 {
@@ -188,6 +164,7 @@ pub fn adr(cpu: Lh5801, r: Register) -> Lh5801
 }
 
 // The divider starts again: as the 8 states are counted after this, previous takes them too.
+#[tactic(auto, unfolding(crate::specs::Instructions::cdv_of))]
 pub fn cdv(cpu: Lh5801) -> Lh5801
     ensures { result ≡ cdv_of cpu }
 {
@@ -196,6 +173,7 @@ pub fn cdv(cpu: Lh5801) -> Lh5801
 }
 
 // A word of the stack passed over.
+#[tactic(auto, unfolding(crate::specs::Instructions::drop_word_of))]
 pub fn drop_word(cpu: Lh5801) -> Lh5801
     ensures { result ≡ drop_word_of cpu }
 {

@@ -1,12 +1,10 @@
 -- Laws of the sixteen words: what is taken fits the record, and what comes back is taken as it is.
 use Prim.Native.Nat.{ℕ, ◌-◌, ◌%◌, ◌^◌, ◌≤◌}
 use mathlib.Core.Path.{◌≡◌, refl, ap, ◌∙◌}
-use mathlib.Core.Bool.{Bool, true, false, cond}
 use mathlib.Core.List.{List, [], ◌∷◌}
 use native.Mathlib.Omega.{arith}
-use lib.Dec.{ltb}
+use Rattle.std.proofs.Math.Nat.{min-le_right, min-eq_left}
 use lib.ListN.{get_or, take}
-use borrow.Author.Tests.{le-ltb, ltb-false}
 use Rattle.pages.specs.Pages.{Pages}
 use Rattle.run.specs.declared.Answer.{Answer}
 use Rattle.run.specs.Acceptance.{end_number, end_byte}
@@ -18,16 +16,9 @@ use Rattle.run.proofs.Numbers.{number_most}
 use Rattle.run.proofs.RecordNumbers.{within_append, record_back}
 use Rattle.lh5801.specs.Words.{taken_of, cpu_of, words_of, word_widths, Left}
 
-limited_small : (value : ℕ) → cond (ltb 65535 value) 65535 value ≤ 65535
-limited_small value = go (ltb 65535 value) refl
-  where
-    go : (t : Bool) → ltb 65535 value ≡ t → cond t 65535 value ≤ 65535
-    go true is = omega arith
-    go false is = ltb-false 65535 value is
-
 pub taken_within : (words : List ℕ) → AllWithin (take 8 widths) (taken_of words)
 unfolding taken_of
-taken_within words = (omega arith, (omega arith, (omega arith, (omega arith, (omega arith, (omega arith, (omega arith, (limited_small (get_or words 7 0), tt))))))))
+taken_within words = (omega arith, (omega arith, (omega arith, (omega arith, (omega arith, (omega arith, (omega arith, (min-le_right (get_or words 7 0) 65535, tt))))))))
 
 pub words_within : (r : Answer) → AllWithin widths (record_numbers r.cpu) → end_byte r.end ≤ 255 → r.steps ≤ 2 ^ 32 - 1 → r.states ≤ 2 ^ 64 - 1
     → AllWithin word_widths (words_of r)
@@ -46,7 +37,7 @@ taken_back r h =
     let u : m.u % 65536 ≡ m.u = omega (arith, h.1.1.1.1.0) in
     let s : m.s % 65536 ≡ m.s = omega (arith, h.1.1.1.1.1.0) in
     let p : m.p % 65536 ≡ m.p = omega (arith, h.1.1.1.1.1.1.0) in
-    rw (a, t, x, y, u, s, p, le-ltb 65535 m.tm h.1.1.1.1.1.1.1.0)
+    rw (a, t, x, y, u, s, p, min-eq_left h.1.1.1.1.1.1.1.0)
 
 -- the words that came back are taken as the record that they are of
 pub continues : (r : Answer) → AllWithin word_widths (words_of r) → cpu_of (words_of r) ≡ r.cpu

@@ -1,5 +1,5 @@
 -- The sixteen words of the C entry: the record and the answer as numbers of 64 bits.
-use Rattle.std.specs.Prelude.{ℕ, ◌-◌, ◌%◌, ◌^◌, Bool, cond, List, [], ◌∷◌, ◌++◌, ◌≡◌, ltb, get_or}
+use Rattle.std.specs.Prelude.{ℕ, ◌-◌, ◌%◌, ◌^◌, Bool, min, List, [], ◌∷◌, ◌++◌, ◌≡◌, get_or}
 use Rattle.arithmetic.specs.declared.record.Lh5801.{Lh5801}
 use Rattle.pages.specs.Pages.{Pages}
 use Rattle.run.specs.declared.Answer.{Answer}
@@ -14,7 +14,7 @@ unfoldable pub taken_of : List ℕ → List ℕ
 taken_of words =
     get_or words 0 0 % 256 ∷ get_or words 1 0 % 256
     ∷ get_or words 2 0 % 65536 ∷ get_or words 3 0 % 65536 ∷ get_or words 4 0 % 65536 ∷ get_or words 5 0 % 65536 ∷ get_or words 6 0 % 65536
-    ∷ cond (ltb 65535 (get_or words 7 0)) 65535 (get_or words 7 0)
+    ∷ min (get_or words 7 0) 65535
     ∷ get_or words 8 0 ∷ get_or words 9 0 ∷ get_or words 10 0 ∷ get_or words 11 0 ∷ []
 
 abbrev pub cpu_of : List ℕ → Lh5801

@@ -1,7 +1,7 @@
 // The entry that a C or Rust program links: one run call.
 #![tactic(auto)]
 
-ghost use Rattle.std.specs.Prelude.{◌≡◌, cond, ltb};
+ghost use Rattle.std.specs.Prelude.{◌≡◌};
 ghost use Rattle.pages.specs.Pages.{pages};
 ghost use Rattle.execution.specs.Inputs.{inputs_of};
 ghost use Rattle.run.specs.RecordNumbers.{AllWithin};
@@ -13,18 +13,11 @@ use bus::BusLog;
 use execution::Inputs;
 use run::{Answer, Settings, record_numbers};
 
-// A number of at most 16 bits; a larger one counts as the largest of them.
-fn limited(value: u64) -> u64
-    ensures { result ≡ cond (ltb 65535 value) 65535 value }
-{
-    if 65535 < value { 65535 } else { value }
-}
-
-// Words 0 to 11, each taken at its field's width.
+// Words 0 to 11, each taken at its field's width; of the timer, 65,535 where it is more.
+#[tactic(auto, unfolding(crate::specs::Words::taken_of))]
 fn taken(words: &[u64; 16]) -> [u64; 12]
     ensures { result ≡ taken_of words.now }
 {
-    let tm = limited(words[7]);
     [
         words[0] % 256,
         words[1] % 256,
@@ -33,7 +26,7 @@ fn taken(words: &[u64; 16]) -> [u64; 12]
         words[4] % 65536,
         words[5] % 65536,
         words[6] % 65536,
-        tm,
+        words[7].min(65535),
         words[8],
         words[9],
         words[10],
@@ -45,11 +38,9 @@ fn taken(words: &[u64; 16]) -> [u64; 12]
 fn words_of(r: Answer) -> [u64; 16]
     ensures { (result ≡ words_of r) × AllWithin word_widths (words_of r) }
 {
-    let cpu = r.cpu;
-    let end = r.end;
-    let numbers = record_numbers::from_record(cpu);
-    let number = record_numbers::byte_number(end.number());
-    let byte = record_numbers::byte_number(end.byte());
+    let numbers = record_numbers::from_record(r.cpu);
+    let number = u64::from(r.end.number());
+    let byte = u64::from(r.end.byte());
     [
         numbers[0],
         numbers[1],
@@ -65,7 +56,7 @@ fn words_of(r: Answer) -> [u64; 16]
         numbers[11],
         number,
         byte,
-        r.steps as u64,
+        u64::from(r.steps),
         r.states,
     ]
 }
@@ -88,13 +79,9 @@ pub extern "C" fn lh5801_call(
 {
     let numbers = taken(words);
     let cpu = record_numbers::record_of(&numbers);
-    let inputs = Inputs {
-        keyboard: keyboard,
-        idle: idle,
-    };
     let settings = Settings {
-        inputs: inputs,
-        limit: limit,
+        inputs: Inputs { keyboard, idle },
+        limit,
     };
     let mut lent = BusLog {
         entries: log,

@@ -1,7 +1,7 @@
 -- How what functions do in the memory is put together. Callers cite these laws and open neither `exec` nor the pages.
-use Rattle.std.proofs.Common.{◌≡◌, ℕ, ◌-◌, ◌<◌, ◌≤◌, List, get_or, set, sym, refl, ap, ◌∙◌, subst}
+use Rattle.std.proofs.Common.{◌≡◌, ℕ, ◌-◌, ◌<◌, ◌≤◌, get_or, set, sym, refl, ap, ◌∙◌, subst}
 use Rattle.pages.specs.declared.Memory.{Memory}
-use Rattle.pages.specs.Pages.{Pages, pages, at, store}
+use Rattle.pages.specs.Pages.{at, store}
 use Rattle.pages.specs.Prog.{Prog, done, ◌>>=◌, mapped, read, write, after, exec}
 use Rattle.pages.specs.Contract.{held, SameLent, Does}
 use Rattle.pages.specs.Stack.{up16, readop_of}

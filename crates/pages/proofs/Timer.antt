@@ -90,9 +90,6 @@ states_status m n = status_ticks (with_timer_state m _) _ ∙ ap (λ (s : Status
 pub states_tm : (m : Lh5801) (n : ℕ) → (add_state_of m n).tm ≡ m.tm
 states_tm m n = ap (λ (s : Status). s.tm) (states_status m n)
 
-pub states_small : (m k : Lh5801) (n : ℕ) → k ≡ add_state_of m n → m.tm < 512 → k.tm < 512
-states_small m k n e h = rw (e, states_tm m n) h
-
 -- states that pass, and then the timer part: the counters, and with 42 states or more since previous one shift
 module _ (m : Lh5801) (n : ℕ) where
   abbrev now : ℕ

@@ -1,5 +1,5 @@
 -- The words of the contracts: a function that is lent the memory does what an access program does.
-use Rattle.std.specs.Prelude.{◌≡◌, ℕ, List}
+use Rattle.std.specs.Prelude.{◌≡◌}
 use Rattle.std.specs.Borrow.{Bor, MutBor}
 use denote.Triple.Both.{Both}
 use Rattle.pages.specs.declared.Memory.{Memory}

@@ -34,10 +34,10 @@ pub struct Popped {
 fn byte_at(page: &[u8], at: usize) -> u8
     ensures { result ≡ slice_index_or page.now at 255 }
 {
-    if at < page.len() { page[at] } else { 255 }
+    page.get(at).copied().unwrap_or(255)
 }
 
-// A write past the end is dropped.
+// A write past the end is dropped. By `get_mut` its proof needed more than the test does.
 fn put_at(page: &mut [u8], at: usize, v: u8)
     ensures { page.new ≡ slice_set page.old at v }
 {
@@ -60,6 +60,7 @@ pub fn word(high: u8, low: u8) -> u16
 }
 
 impl Memory<'_> {
+    #[tactic(auto, using(crate::proofs::Does::does_read0, crate::proofs::Does::does_read1))]
     pub fn read_byte(&self, addr: u32) -> u8
         ensures { Reads (read addr) self result }
     {
@@ -164,6 +165,7 @@ pub fn accept(cpu: Lh5801, memory: &mut Memory, vector: u16) -> Lh5801
 }
 
 // States pass, on the two counters.
+#[tactic(auto, unfolding(crate::specs::Timer::add_state_of))]
 pub fn add_state(cpu: Lh5801, n: u8) -> Lh5801
     ensures { result ≡ add_state_of cpu n }
 {
@@ -173,8 +175,8 @@ pub fn add_state(cpu: Lh5801, n: u8) -> Lh5801
 }
 
 // TM shifted once.
+#[tactic(auto, unfolding(crate::specs::Timer::shift_of, crate::specs::Timer::timer_inc_of))]
 pub fn timer_inc(cpu: Lh5801) -> Lh5801
-    requires { cpu.tm < 512 }
     ensures { result ≡ timer_inc_of cpu }
 {
     let tm = cpu.tm;
@@ -193,7 +195,6 @@ fn passed(cpu: Lh5801) -> u64
 // One shift where 42 states or more have passed since previous was set.
 #[tactic(auto, using(crate::proofs::Timer::timer_part_early, crate::proofs::Timer::timer_part_due))]
 pub fn timer_part(cpu: Lh5801) -> Lh5801
-    requires { cpu.tm < 512 }
     ensures { result ≡ timer_part_of cpu }
 {
     if 42 <= passed(cpu) {
@@ -205,7 +206,6 @@ pub fn timer_part(cpu: Lh5801) -> Lh5801
 
 // A waiting step: its states pass, and then the timer part.
 pub fn wait(cpu: Lh5801, idle: u8) -> Lh5801
-    requires { cpu.tm < 512 }
     ensures { result ≡ timer_part_of (add_state_of cpu idle) }
 {
     let later = add_state(cpu, idle);

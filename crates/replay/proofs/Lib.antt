@@ -1,5 +1,4 @@
+pub mod Numbers
 pub mod Summed
 pub mod Stores
-pub mod Compared
-pub mod Results
 pub mod Listed

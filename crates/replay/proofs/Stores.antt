@@ -1,8 +1,8 @@
 -- Bytes by the fill rule, and groups of four.
-use Rattle.std.proofs.Common.{◌≡◌, ℕ, suc, ◌+◌, ◌-◌, ◌<◌, ◌≤◌, eqb, List, [], ◌∷◌, length, get_or, drop, set, refl, add-one, arith, length-drop, drop-cons}
-use native.Mathlib.Numerals.{add-two, add-three, add-four}
+use Rattle.std.proofs.Common.{take, take_all, ◌*◌, min, ⊎_elim, ◌≡◌, ℕ, suc, ◌+◌, ◌-◌, ◌<◌, ◌≤◌, eqb, List, [], ◌∷◌, length, get_or, drop, set, refl, add-one, arith, length-drop}
 use lib.Seq.{sets, set_out}
-use Rattle.replay.specs.Numbers.{next_byte_of, two_of}
+use Rattle.run.proofs.CampaignFile.Groups.{lt_or_ge}
+use Rattle.replay.specs.Numbers.{next_byte_of}
 use Rattle.replay.specs.Bytes.{rule_bytes, set_of, patch_of}
 
 -- nothing is stored past the end
@@ -18,26 +18,36 @@ one_filled page len byte step i h =
     let e : len - i ≡ suc (len - (i + 1)) = omega arith in
     rw (e, add-one)
 
--- no byte of the fill rule is left
-pub all_filled : (page : List ℕ) (len byte step i : ℕ) → len ≤ i → sets page i (rule_bytes (len - i) byte step i) ≡ page
+-- no byte of the fill rule is left, or no place of the page
+pub all_filled : (page : List ℕ) (len byte step i : ℕ) → min len (length page) ≤ i → sets page i (rule_bytes (len - i) byte step i) ≡ page
 unfolding rule_bytes
-all_filled page len byte step i h = let e : len - i ≡ 0 = omega arith in rw e
+all_filled page len byte step i h = ⊎_elim past none (lt_or_ge i len)
+  where
+    past : i < len → sets page i (rule_bytes (len - i) byte step i) ≡ page
+    past g = past_end (rule_bytes (len - i) byte step i) page i (omega arith)
+
+    none : len ≤ i → sets page i (rule_bytes (len - i) byte step i) ≡ page
+    none g = let e : len - i ≡ 0 = omega arith in rw e
 
 -- one group of four
-pub one_patched : (page : List ℕ) (which : ℕ) (l : List ℕ) (i : ℕ) → 4 ≤ length l - i
-    → patch_of page which (drop i l) ≡ patch_of (set_of page (eqb (get_or l (i + 2) 0) which) (two_of l i) (get_or l (i + 3) 0)) which (drop (i + 4) l)
-unfolding patch_of two_of
-one_patched page which l i h =
-    rw (add-one, add-two, add-three, add-four, drop-cons l i 0 (omega arith), drop-cons l (suc i) 0 (omega arith), drop-cons l (suc (suc i)) 0 (omega arith), drop-cons l (suc (suc (suc i))) 0 (omega arith))
+pub one_patched : (page : List ℕ) (which : ℕ) (l : List ℕ) → 4 ≤ length l
+    → patch_of (set_of page (eqb (get_or l 2 0) which) (get_or l 0 0 + 256 * get_or l 1 0) (get_or l 3 0)) which (drop 4 l) ≡ patch_of page which l
+unfolding patch_of
+one_patched page which [] h = absurd (omega arith)
+one_patched page which (a ∷ []) h = absurd (omega arith)
+one_patched page which (a ∷ b ∷ []) h = absurd (omega arith)
+one_patched page which (a ∷ b ∷ c ∷ []) h = absurd (omega arith)
+one_patched page which (a ∷ b ∷ c ∷ d ∷ l) h = refl
+
+-- all that is left after four
+pub rest_left : (l : List ℕ) → take (length l - 4) (drop 4 l) ≡ drop 4 l
+rest_left l = take_all (length l - 4) (drop 4 l) (rw length-drop (omega arith))
 
 -- fewer than four bytes set nothing
-short : (page : List ℕ) (which : ℕ) (l : List ℕ) → length l < 4 → patch_of page which l ≡ page
+pub short : (page : List ℕ) (which : ℕ) (l : List ℕ) → length l < 4 → patch_of page which l ≡ page
 unfolding patch_of
 short page which [] h = refl
 short page which (a ∷ []) h = refl
 short page which (a ∷ b ∷ []) h = refl
 short page which (a ∷ b ∷ c ∷ []) h = refl
 short page which (a ∷ b ∷ c ∷ d ∷ l) h = absurd (omega arith)
-
-pub all_patched : (page : List ℕ) (which : ℕ) (l : List ℕ) (i : ℕ) → length l - i < 4 → patch_of page which (drop i l) ≡ page
-all_patched page which l i h = short page which (drop i l) (rw length-drop h)

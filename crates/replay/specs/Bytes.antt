@@ -1,5 +1,7 @@
 -- The pages before a call, and the comparison of a line.
-use Rattle.std.specs.Prelude.{ℕ, zero, suc, ◌+◌, ◌*◌, Bool, true, false, cond, List, [], ◌∷◌, length, take, ◌==◌, nat_le, slice_set}
+use Rattle.std.specs.Prelude.{ℕ, zero, suc, ◌+◌, ◌*◌, Bool, cond, not, List, [], ◌∷◌, length, ◌==◌, nat_eq, nat_le, slice_set}
+use Rattle.std.specs.Cmp.Lexicographic.{pointwise}
+use Rattle.run.specs.declared.campaign_file.PagePlace.{PagePlace}
 use Rattle.run.specs.Parts.{part, at_start}
 use Rattle.replay.specs.declared.Rule.{Rule}
 use Rattle.replay.specs.Numbers.{next_byte_of}
@@ -31,20 +33,9 @@ patch_of page which (low ∷ high ∷ []) = page
 patch_of page which (low ∷ high ∷ number ∷ []) = page
 
 -- a page before the call: the fill rule, then the file's bytes, then the bytes that are set
-unfoldable pub prepare_of : List ℕ → ℕ → ℕ → Rule → List ℕ → ℕ → ℕ → List ℕ → List ℕ
-prepare_of page which len rule file at count patches = patch_of (copy_page_of file at (fill_of page len rule.first rule.step) count) which patches
+unfoldable pub prepare_of : List ℕ → ℕ → ℕ → Rule → List ℕ → PagePlace → List ℕ → List ℕ
+prepare_of page which len rule file place patches = patch_of (copy_page_of file place.at (fill_of page len rule.first rule.step) place.len) which patches
 
--- the same bytes, and as many
-unfoldable pub same_bytes : List ℕ → List ℕ → Bool
-same_bytes [] [] = true
-same_bytes (a ∷ xs) (b ∷ ys) = cond (a == b) (same_bytes xs ys) false
-same_bytes [] (b ∷ ys) = false
-same_bytes (a ∷ xs) [] = false
-
--- 0 where two lists are the same bytes, else 1
-abbrev pub bytes_differ : List ℕ → List ℕ → ℕ
-bytes_differ found want = cond (same_bytes found want) 0 1
-
--- 0 where the first bytes of a buffer, so many, are those of the wanted line, else 1
-unfoldable pub line_differs_of : List ℕ → ℕ → List ℕ → ℕ
-line_differs_of out n want = cond (n == length want) (bytes_differ (take n out) want) 1
+-- two lists are not the same bytes
+abbrev pub bytes_differ : List ℕ → List ℕ → Bool
+bytes_differ found want = not (pointwise nat_eq found want)

@@ -1,5 +1,6 @@
 -- One call of the list, an item of the list, and the whole list.
-use Rattle.std.specs.Prelude.{◌≡◌, ℕ, zero, suc, ◌+◌, ◌-◌, ◌≤◌, true, false, cond, List, length, replicate, ◌==◌, nat_lt, slice_index}
+use Rattle.std.specs.Prelude.{◌≡◌, ℕ, zero, suc, ◌+◌, ◌*◌, ◌≤◌, Bool, true, false, cond, not, ◌||◌, List, length, take, drop, replicate, ◌==◌, nat_lt, slice_index, Option, None, Some}
+use Rattle.std.specs.Int.{from_bool}
 use Rattle.run.specs.declared.Log.{Log}
 use Rattle.run.specs.declared.campaign_file.Parsed.{Parsed}
 use Rattle.run.specs.declared.campaign_file.Refusal.{Refusal}
@@ -8,16 +9,15 @@ use Rattle.run.specs.Line.{refusal_line_of}
 use Rattle.run.specs.BusLog.{free_in, appended, used_after}
 use Rattle.run.specs.Run.{CallResult}
 use Rattle.run.specs.Report.{settings_in, answer_line}
-use Rattle.run.specs.Parts.{part, run_parts_of}
+use Rattle.run.specs.Parts.{run_parts_of}
 use Rattle.replay.specs.declared.Sums.{Sums}
 use Rattle.replay.specs.declared.Lent.{Lent}
-use Rattle.replay.specs.declared.Found.{Found}
 use Rattle.replay.specs.declared.Tally.{Tally}
-use Rattle.replay.specs.Numbers.{two_of, four_of, eight_of, end_of, no_sums, with_number, sums_of, sums_differ_of, either_of}
+use Rattle.replay.specs.Numbers.{number_at, sums_after_of, same_sums}
 use Rattle.replay.specs.Bytes.{prepare_of, bytes_differ}
 
--- a file that was turned down: 0 where its line is the wanted one, else 1
-unfoldable pub refusal_differs_of : Refusal → List ℕ → ℕ
+-- a file that was turned down: is its line not the wanted one?
+unfoldable pub refusal_differs_of : Refusal → List ℕ → Bool
 refusal_differs_of stop want = bytes_differ (refusal_line_of (refusal_number stop) (refusal_offset stop)) want
 
 -- a page of zeros
@@ -36,82 +36,86 @@ log_in used = cond (used == 65535) (record { lent = false; used = 0 }) (record {
 unfoldable pub call_result_of : List ℕ → Parsed → Lent → List ℕ → CallResult
 call_result_of file c lent sets =
     run_parts_of (settings_in c.asked) (free_in lent.log unused) c.cpu
-    (prepare_of blank 0 lent.len0 lent.rule file c.page0_at c.page0_len sets) lent.len0
-    (prepare_of blank 1 lent.len1 lent.rule file c.page1_at c.page1_len sets) lent.len1
+    (prepare_of blank 0 lent.len0 lent.rule file c.page0 sets) lent.len0
+    (prepare_of blank 1 lent.len1 lent.rule file c.page1 sets) lent.len1
 
 -- the sums over both pages after a call, then over all entries of the list, then over the used count
 abbrev pub result_sums : Log → CallResult → Sums
-result_sums log o =
-    with_number (sums_of (appended log unused o.bus) (sums_of o.pages.page1 (sums_of o.pages.page0 no_sums))) (used_after log o.bus)
+result_sums log o = sums_after_of o.pages.page0 o.pages.page1 (appended log unused o.bus) (used_after log o.bus)
 
--- 0 where a call tells the wanted line and leaves pages, list and used count of the wanted sums, else 1
-abbrev pub result_differs : Log → CallResult → List ℕ → Sums → ℕ
-result_differs log o want want_sums =
-    either_of (bytes_differ (answer_line o.answer) want) (sums_differ_of (result_sums log o) want_sums)
+-- a call tells another line than the wanted one, or leaves pages, list and used count of other sums
+abbrev pub result_differs : Log → CallResult → List ℕ → Sums → Bool
+result_differs log o want want_sums = bytes_differ (answer_line o.answer) want || not (same_sums (result_sums log o) want_sums)
 
-unfoldable pub call_differs_of : List ℕ → Parsed → Lent → List ℕ → List ℕ → Sums → ℕ
+unfoldable pub call_differs_of : List ℕ → Parsed → Lent → List ℕ → List ℕ → Sums → Bool
 call_differs_of file c lent sets want want_sums = result_differs lent.log (call_result_of file c lent sets) want want_sums
 
 -- a file that is read is one call; a file that is turned down has a line only
-abbrev pub file_differs : Field Parsed → List ℕ → Lent → List ℕ → List ℕ → Sums → ℕ
+abbrev pub file_differs : Field Parsed → List ℕ → Lent → List ℕ → List ℕ → Sums → Bool
 file_differs (read c next) file lent sets want want_sums = call_differs_of file c lent sets want want_sums
 file_differs (refused stop) file lent sets want want_sums = refusal_differs_of stop want
 
 -- one call of the list; one whose pages are longer than 65,537 bytes differs
-unfoldable pub differs_of : List ℕ → Lent → List ℕ → List ℕ → Sums → ℕ
+unfoldable pub differs_of : List ℕ → Lent → List ℕ → List ℕ → Sums → Bool
 differs_of file lent sets want want_sums =
-    cond (nat_lt 65537 lent.len0) 1 (cond (nat_lt 65537 lent.len1) 1 (file_differs (campaign_of file 0) file lent sets want want_sums))
+    cond (nat_lt 65537 lent.len0) true (cond (nat_lt 65537 lent.len1) true (file_differs (campaign_of file 0) file lent sets want want_sums))
 
--- the bytes from one place to another
-abbrev pub between : List ℕ → ℕ → ℕ → List ℕ
-between bytes from to = part bytes from (to - from)
-
--- what the item that begins here lends its call
-unfoldable pub lent_of : List ℕ → ℕ → Lent
-lent_of bytes at =
+-- what an item lends its call, by the item's first 16 bytes
+unfoldable pub lent_of : List ℕ → Lent
+lent_of head =
     record {
-      len0 = four_of bytes (at + 2);
-      len1 = four_of bytes (at + 6);
-      rule = record { first = slice_index bytes (at + 11); step = slice_index bytes (at + 12) };
-      log = log_in (two_of bytes (at + 14));
+      len0 = number_at 4 head 2;
+      len1 = number_at 4 head 6;
+      rule = record { first = slice_index head 11; step = slice_index head 12 };
+      log = log_in (number_at 2 head 14);
     }
 
--- the item that begins here and ends there: its campaign file lies from here + 16 to middle, its line from there to last, the bytes that are set
--- from there to the sums, which are its last 16 bytes. One whose parts reach into the sums differs
-abbrev pub parts_differ : List ℕ → ℕ → ℕ → ℕ → ℕ → ℕ
-parts_differ bytes at middle last to =
-    cond (nat_lt to last) 1
-    (differs_of (between bytes (at + 16) middle) (lent_of bytes at) (between bytes last to) (between bytes middle last)
-    (record { first = eight_of bytes to; second = eight_of bytes (to + 8) }))
+-- what is read from the start of a list, with what is left of it; nothing where the list ends before
+abbrev pub Reader : Type 0 → Type 0
+Reader A = List ℕ → Option (A × List ℕ)
 
-unfoldable pub item_differs_of : List ℕ → ℕ → ℕ → ℕ
-item_differs_of bytes at end =
-    parts_differ bytes at (at + 16 + two_of bytes at) (at + 16 + two_of bytes at + slice_index bytes (at + 10)) (end - 16)
+abbrev pub and_then : {A B : Type 0} → Option (A × List ℕ) → (A → Reader B) → Option (B × List ℕ)
+and_then None rest = None
+and_then (Some found) rest = rest found.0 found.1
 
--- an item that is cut off counts as a call that differs, and ends the list
-abbrev pub cut_off : List ℕ → Found
-cut_off bytes = record { end = length bytes; differs = 1 }
+infixl 20 ◌>>=◌
+abbrev pub ◌>>=◌ : {A B : Type 0} → Reader A → (A → Reader B) → Reader B
+◌>>=◌ first rest = λ list. and_then (first list) rest
 
--- the item that begins here
-unfoldable pub item_of : List ℕ → ℕ → Found
-item_of bytes at =
-    cond (nat_lt (length bytes - at) 16) (cut_off bytes)
-    (cond (nat_lt (length bytes) (end_of bytes at)) (cut_off bytes)
-    (record { end = end_of bytes at; differs = item_differs_of bytes at (end_of bytes at) }))
+abbrev pub given : {A : Type 0} → A → Reader A
+given a = λ list. Some (a, list)
+
+-- so many bytes
+unfoldable pub taken : ℕ → Reader (List ℕ)
+taken len list = cond (nat_lt (length list) len) None (Some (take len list, drop len list))
+
+-- an item: its first 16 bytes, its campaign file, its line, the bytes that are set, four for each, and the sums. Does its call differ?
+unfoldable pub item_of : Reader Bool
+item_of = do
+  head ← taken 16
+  file ← taken (number_at 2 head 0)
+  line ← taken (slice_index head 10)
+  sets ← taken (4 * slice_index head 13)
+  sums ← taken 16
+  given (differs_of file (lent_of head) sets line (record { first = number_at 8 sums 0; second = number_at 8 sums 8 }))
 
 -- one call more, and one more that differs where it does
-abbrev pub with_found : Tally → Found → Tally
-with_found tally found = record { calls = tally.calls + 1; differ = tally.differ + found.differs }
+abbrev pub with_call : Tally → Bool → Tally
+with_call tally differs = record { calls = tally.calls + 1; differ = tally.differ + from_bool differs }
 
--- the items from a place on, of which there are at most so many as the first argument says, counted after those before them
-unfoldable pub replay_from : ℕ → List ℕ → ℕ → Tally → Tally
-replay_from zero bytes at tally = tally
-replay_from (suc more) bytes at tally =
-    cond (nat_lt at (length bytes)) (replay_from more bytes (item_of bytes at).end (with_found tally (item_of bytes at))) tally
+-- an item is counted, and then those after it. An item that is cut off counts as a call that differs, and ends the list
+abbrev pub with_item : Tally → Option (Bool × List ℕ) → (List ℕ → Tally → Tally) → Tally
+with_item tally None rest = with_call tally true
+with_item tally (Some found) rest = rest found.1 (with_call tally found.0)
+
+-- the items of a list, of which there are at most so many as the first argument says, counted after those before them
+unfoldable pub replay_from : ℕ → List ℕ → Tally → Tally
+replay_from zero list tally = tally
+replay_from (suc more) list tally = cond (nat_lt 0 (length list)) (with_item tally (item_of list) (replay_from more)) tally
 
 -- the whole list. An item has at least one byte, so there are at most as many items as bytes
 unfoldable pub replay_of : List ℕ → Tally
-replay_of bytes = replay_from (length bytes) bytes 0 (record { calls = 0; differ = 0 })
+replay_of bytes = replay_from (length bytes) bytes (record { calls = 0; differ = 0 })
 
 -- what is counted of a file: the tally of some bytes, at most 65,536
 pub record Replayed (r : Tally) : Type 0 where

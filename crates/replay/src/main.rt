@@ -14,21 +14,34 @@
 // log is lent; the used count is then 0.
 #![tactic(auto)]
 
-ghost use Rattle.std.specs.Prelude.{◌≡◌, ◌+◌, ◌≤◌, length, take, IfOk};
+ghost use Rattle.std.specs.Prelude.{◌≡◌, ℕ, ◌+◌, ◌^◌, ◌<◌, ◌≤◌, List, None, Some, length, take, IfOk, IfSome, MatchOption};
+ghost use Rattle.std.specs.List.{AllZip};
 ghost use Rattle.run.specs.Parts.{RunParts};
-ghost use Rattle.replay.specs.Numbers.{two_of, four_of, eight_of, end_of, with_number, sums_of, sums_page_of, sums_after_of, sums_differ_of, either_of, both_of, next_byte_of};
-ghost use Rattle.replay.specs.Bytes.{fill_of, copy_page_of, set_of, patch_of, prepare_of, line_differs_of};
-ghost use Rattle.replay.specs.Calls.{refusal_differs_of, log_in, call_differs_of, differs_of, lent_of, item_differs_of, item_of, replay_of, Replayed};
+ghost use Rattle.replay.specs.Numbers.{number_at, with_number, sums_of, sums_after_of, both_of, next_byte_of};
+ghost use Rattle.replay.specs.Bytes.{fill_of, copy_page_of, set_of, patch_of, prepare_of};
+ghost use Rattle.replay.specs.Calls.{refusal_differs_of, log_in, call_differs_of, differs_of, lent_of, taken, item_of, replay_of, Replayed};
 
 use arithmetic::record::Lh5801;
-use run::campaign_file::{Campaign, Parsed, Refusal};
+use run::campaign_file::{PagePlace, Parsed, Refusal};
 use run::{Log, Logged, Settings, campaign_file, line, parts, report};
 use std::io::Read;
 use std::rt::Files;
 use std::{fs, io};
 
+// The parts of the list, each in a file.
+const PARTS: [&str; 8] = [
+    "answers0.bin",
+    "answers1.bin",
+    "answers2.bin",
+    "answers3.bin",
+    "answers4.bin",
+    "answers5.bin",
+    "answers6.bin",
+    "answers7.bin",
+];
+
 // Two running sums over numbers: each number is added to the first, and then the first to the second, modulo 2^64.
-#[derive(Clone, Copy)]
+#[derive(Clone, Copy, PartialEq, Eq)]
 struct Sums {
     first: u64,
     second: u64,
@@ -57,139 +70,81 @@ struct Tally {
     differ: u64,
 }
 
-fn wide(byte: u8) -> u64
-    ensures { (result ≡ byte) × (result ≤ 255) }
-{
-    byte as u64
+// The items of the list that are left.
+#[derive(Clone, Copy)]
+struct Items<'a> {
+    left: &'a [u8],
 }
 
-// An entry as a number.
-fn entry_number(entry: u32) -> u64
-    ensures { result ≡ entry }
+// The number of N bytes from a place on, the lowest first.
+#[tactic(auto, using(crate::proofs::Numbers::none_at))]
+fn number<const N: usize>(bytes: &[u8], at: usize) -> u64
+    requires { (at + N ≤ length bytes.now) × (N ≤ 8) }
+    ensures { (result ≡ number_at N bytes.now at) × (result < 256 ^ N) }
 {
-    entry as u64
+    let mut number = 0;
+    for i in (0..N).rev() {
+        number = 256 * number + u64::from(bytes[at + i]);
+    }
+    number
 }
 
-// The number of two bytes, the lower first.
-fn two(bytes: &[u8], at: usize) -> u64
-    requires { at + 2 ≤ length bytes.now }
-    ensures { (result ≡ two_of bytes.now at) × (result ≤ 65535) }
-{
-    wide(bytes[at]) + 256 * wide(bytes[at + 1])
-}
+impl Sums {
+    // The sums with one number more.
+    #[tactic(auto, unfolding(crate::specs::Numbers::with_number))]
+    fn with_number(self, number: u64) -> Sums
+        ensures { result ≡ with_number self number }
+    {
+        let first = self.first.wrapping_add(number);
+        let second = self.second.wrapping_add(first);
+        Sums { first, second }
+    }
 
-// The number of four bytes, the lowest first.
-fn four(bytes: &[u8], at: usize) -> u64
-    requires { at + 4 ≤ length bytes.now }
-    ensures { (result ≡ four_of bytes.now at) × (result ≤ 4294967295) }
-{
-    two(bytes, at) + 65536 * two(bytes, at + 2)
-}
-
-// The number of eight bytes, the lowest first.
-fn eight(bytes: &[u8], at: usize) -> u64
-    requires { at + 8 ≤ length bytes.now }
-    ensures { result ≡ eight_of bytes.now at }
-{
-    four(bytes, at) + 4294967296 * four(bytes, at + 4)
-}
-
-// The sums with one number more.
-fn with_number(before: Sums, number: u64) -> Sums
-    ensures { result ≡ with_number before number }
-{
-    let first = std::num::wrapping_add_u64(before.first, number);
-    let second = std::num::wrapping_add_u64(before.second, first);
-    Sums {
-        first: first,
-        second: second,
+    // The sums go on over numbers of any width.
+    fn over<T: Copy + Into<u64>>(self, numbers: &[T]) -> Sums
+        ensures { (values : List ℕ) × AllZip T.converts numbers.now values × (result ≡ sums_of values self) }
+    {
+        let mut sums = self;
+        for number in numbers {
+            sums = sums.with_number((*number).into());
+        }
+        sums
     }
 }
 
-// The sums go on over the first bytes of a page.
-fn sums_over(page: &[u8], len: usize, before: Sums) -> Sums
-    requires { len ≤ length page.now }
-    ensures { result ≡ sums_of (take len page.now) before }
+// A page's bytes, from their place in the file on, to the start of a page; nothing where they are not all there or do not fit.
+#[tactic(auto, unfolding(crate::specs::Bytes::copy_page_of))]
+fn copy_page(page: &mut [u8], file: &[u8], place: PagePlace)
+    ensures { page.new ≡ copy_page_of file.now place.at page.old place.len }
 {
-    let mut sums = before;
-    let mut i = 0;
-    while i < len {
-        sums = with_number(sums, wide(page[i]));
-        i += 1;
+    if place.at <= file.len() && place.len <= file.len() - place.at && place.len <= page.len() {
+        parts::copy_part(file, place.at, page, place.len);
     }
-    sums
-}
-
-// The sums go on over all entries of a list.
-fn sums_entries(entries: &[u32], before: Sums) -> Sums
-    ensures { result ≡ sums_of entries.now before }
-{
-    let mut sums = before;
-    let mut i = 0;
-    while i < entries.len() {
-        sums = with_number(sums, entry_number(entries[i]));
-        i += 1;
-    }
-    sums
-}
-
-// The sums go on over the first bytes of an array; where it has not so many, they are 0.
-fn sums_page(page: &[u8; 65537], len: usize, before: Sums) -> Sums
-    ensures { result ≡ sums_page_of page.now len before }
-{
-    if 65537 < len {
-        return Sums {
-            first: 0,
-            second: 0,
-        };
-    }
-    sums_over(page, len, before)
-}
-
-// A page's bytes, from a place of the file on, to the start of a page; nothing where they are not all there or do not fit.
-fn copy_page(bytes: &[u8], at: usize, page: &mut [u8], len: usize)
-    ensures { page.new ≡ copy_page_of bytes.now at page.old len }
-{
-    let all = bytes.len();
-    if all < at {
-        return;
-    }
-    if all - at < len {
-        return;
-    }
-    if page.len() < len {
-        return;
-    }
-    parts::copy_part(bytes, at, page, len);
 }
 
 // The fill rule's byte at offset i from the one before it: a step on, and four steps on where a block of 256 begins, modulo 256.
+#[tactic(auto, unfolding(crate::specs::Numbers::next_byte_of))]
 fn next_byte(byte: u8, step: u8, i: usize) -> u8
     ensures { result ≡ next_byte_of byte step i }
 {
-    let next = std::num::wrapping_add_u8(byte, step);
-    if i % 256 == 0 {
-        let next = std::num::wrapping_add_u8(next, step);
-        let next = std::num::wrapping_add_u8(next, step);
-        return std::num::wrapping_add_u8(next, step);
-    }
-    next
+    let steps = if i % 256 == 0 { 4 } else { 1 };
+    byte.wrapping_add(step.wrapping_mul(steps))
 }
 
 // The first bytes of a page by the fill rule.
-fn fill(page: &mut [u8], len: usize, first: u8, step: u8)
-    ensures { page.new ≡ fill_of page.old len first step }
+#[tactic(auto, using(crate::proofs::Stores::one_filled, crate::proofs::Stores::all_filled), unfolding(crate::specs::Bytes::fill_of))]
+fn fill(page: &mut [u8], len: usize, rule: Rule)
+    ensures { page.new ≡ fill_of page.old len rule.first rule.step }
 {
-    let mut byte = first;
-    let mut i = 0;
-    while i < len && i < page.len() {
+    let mut byte = rule.first;
+    for i in 0..len.min(page.len()) {
         page[i] = byte;
-        i += 1;
-        byte = next_byte(byte, step, i);
+        byte = next_byte(byte, rule.step, i + 1);
     }
 }
 
 // One byte of a page, where it is this page's and lies in it.
+#[tactic(auto, unfolding(crate::specs::Bytes::set_of))]
 fn set(page: &mut [u8], is_here: bool, offset: usize, byte: u8)
     ensures { page.new ≡ set_of page.old is_here offset byte }
 {
@@ -199,36 +154,38 @@ fn set(page: &mut [u8], is_here: bool, offset: usize, byte: u8)
 }
 
 // The bytes that are set after the fill rule in one page: in groups of four the offset in two bytes, the page, and the byte.
-fn patch(page: &mut [u8], which: u64, sets: &[u8])
+#[tactic(auto, using(crate::proofs::Stores::short, crate::proofs::Stores::one_patched, crate::proofs::Stores::rest_left), unfolding(crate::specs::Bytes::patch_of))]
+fn patch(page: &mut [u8], which: u8, sets: &[u8])
     ensures { page.new ≡ patch_of page.old which sets.now }
 {
-    let mut i = 0;
-    while 4 <= sets.len() - i {
-        let offset = two(sets, i) as usize;
-        set(page, wide(sets[i + 2]) == which, offset, sets[i + 3]);
-        i += 4;
+    let mut left = sets;
+    while let [low, high, number, byte, more @ ..] = left {
+        let offset = usize::from(*low) + 256 * usize::from(*high);
+        set(page, *number == which, offset, *byte);
+        left = more;
     }
 }
 
 // A page before the call: the fill rule, then the file's bytes, then the bytes that are set.
+#[tactic(auto, unfolding(crate::specs::Bytes::prepare_of))]
 fn prepare(
     page: &mut [u8],
-    which: u64,
+    which: u8,
     len: usize,
     rule: Rule,
     file: &[u8],
-    at: usize,
-    count: usize,
+    place: PagePlace,
     sets: &[u8],
 )
-    ensures { page.new ≡ prepare_of page.old which len rule file.now at count sets.now }
+    ensures { page.new ≡ prepare_of page.old which len rule file.now place sets.now }
 {
-    fill(page, len, rule.first, rule.step);
-    copy_page(file, at, page, count);
+    fill(page, len, rule);
+    copy_page(page, file, place);
     patch(page, which, sets);
 }
 
 // The log that an item lends: so many entries are used, and 65,535 says that there is no log.
+#[tactic(auto, unfolding(crate::specs::Calls::log_in))]
 fn log_of(used: u64) -> Log
     ensures { result ≡ log_in used }
 {
@@ -261,65 +218,24 @@ fn run_pages(
     parts::run_parts(cpu, page0, len0, page1, len1, entries, log, settings)
 }
 
-// 0 where the first bytes of a buffer, so many, are those of the wanted line, else 1.
-fn line_differs(out: &[u8; 200], n: usize, want: &[u8]) -> u64
-    ensures { (result ≡ line_differs_of out.now n want.now) × (result ≤ 1) }
-{
-    let buffer: &[u8] = out;
-    if n != want.len() {
-        return 1;
-    }
-    let mut i = 0;
-    while i < want.len() && i < buffer.len() {
-        if buffer[i] != want[i] {
-            return 1;
-        }
-        i += 1;
-    }
-    if i == want.len() { 0 } else { 1 }
-}
-
-// 0 where the sums are the wanted ones, else 1.
-fn sums_differ(sums: Sums, want: Sums) -> u64
-    ensures { result ≡ sums_differ_of sums want }
-{
-    if sums.first == want.first && sums.second == want.second {
-        0
-    } else {
-        1
-    }
-}
-
-// 0 where neither differs, else 1.
-fn either(line: u64, sums: u64) -> u64
-    ensures { (result ≡ either_of line sums) × (result ≤ 1) }
-{
-    if line == 0 && sums == 0 { 0 } else { 1 }
-}
-
 // The sums over what a call leaves: the starts of both pages, all entries of the list, and the used count.
 #[tactic(auto, unfolding(crate::specs::Numbers::sums_after_of))]
-fn sums_after(
-    page0: &[u8; 65537],
-    len0: usize,
-    page1: &[u8; 65537],
-    len1: usize,
-    entries: &[u32; 64],
-    used: usize,
-) -> Sums
-    ensures { result ≡ sums_after_of page0.now len0 page1.now len1 entries.now used }
+fn sums_after(page0: &[u8], page1: &[u8], entries: &[u32], used: usize) -> Sums
+    ensures { result ≡ sums_after_of page0.now page1.now entries.now used }
 {
     let none = Sums {
         first: 0,
         second: 0,
     };
-    let sums = sums_page(page0, len0, none);
-    let sums = sums_page(page1, len1, sums);
-    let sums = sums_entries(entries, sums);
-    with_number(sums, used as u64)
+    none.over(page0)
+        .over(page1)
+        .over(entries)
+        .with_number(used as u64)
 }
 
-// A file that was read: its call, on the pages that the fill rule, the file and the bytes that are set make, and with the log.
+// Does the call of a file that was read answer something else? It runs on the pages that the fill rule, the file and the bytes that are set make, and
+// with the log.
+#[tactic(auto, unfolding(crate::specs::Calls::call_differs_of, crate::specs::Calls::call_result_of))]
 fn call_differs(
     file: &[u8],
     c: Parsed,
@@ -327,9 +243,9 @@ fn call_differs(
     sets: &[u8],
     want: &[u8],
     want_sums: Sums,
-) -> u64
+) -> bool
     requires { (lent.len0 ≤ 65537) × (lent.len1 ≤ 65537) }
-    ensures { (result ≡ call_differs_of file.now c lent sets.now want.now want_sums) × (result ≤ 1) }
+    ensures { result ≡ call_differs_of file.now c lent sets.now want.now want_sums }
 {
     let mut page0 = [0u8; 65537];
     let mut page1 = [0u8; 65537];
@@ -337,165 +253,117 @@ fn call_differs(
     let mut out = [0u8; 200];
     let len0 = lent.len0;
     let len1 = lent.len1;
-    let rule = lent.rule;
-    let at0 = c.page0_at;
-    let at1 = c.page1_at;
-    prepare(&mut page0, 0, len0, rule, file, at0, c.page0_len, sets);
-    prepare(&mut page1, 1, len1, rule, file, at1, c.page1_len, sets);
-    let cpu = c.cpu;
-    let asked = c.asked;
-    let settings = report::settings_of(asked);
-    let log = lent.log;
+    prepare(&mut page0, 0, len0, lent.rule, file, c.page0, sets);
+    prepare(&mut page1, 1, len1, lent.rule, file, c.page1, sets);
     let r = run_pages(
-        cpu,
+        c.cpu,
         &mut page0,
         len0,
         &mut page1,
         len1,
         &mut entries,
-        log,
-        settings,
+        lent.log,
+        Settings::from(c.asked),
     );
-    let answer = r.answer;
-    let n = report::answer_line(&mut out, answer);
-    let sums = sums_after(&page0, len0, &page1, len1, &entries, r.used);
-    either(line_differs(&out, n, want), sums_differ(sums, want_sums))
+    let n = report::answer_line(&mut out, r.answer);
+    let sums = sums_after(&page0[..len0], &page1[..len1], &entries, r.used);
+    (&out[..n] != want) | (sums != want_sums)
 }
 
-// A file that was turned down: its line.
-fn refusal_differs(stop: Refusal, want: &[u8]) -> u64
-    ensures { (result ≡ refusal_differs_of stop want.now) × (result ≤ 1) }
+// Is the line of a file that was turned down another one?
+#[tactic(auto, unfolding(crate::specs::Calls::refusal_differs_of))]
+fn refusal_differs(stop: Refusal, want: &[u8]) -> bool
+    ensures { result ≡ refusal_differs_of stop want.now }
 {
     let mut out = [0u8; 200];
     let n = line::refusal_line(&mut out, stop.number(), stop.offset() as u64);
-    line_differs(&out, n, want)
+    &out[..n] != want
 }
 
 // One call of the list. The file is read before the lengths are tested, so that the great stack frame is made at the function's start: with the tests first,
 // clang 22.1.8 makes it behind them, and the loop that does so overwrites r11, where it keeps a length.
-fn differs(file: &[u8], lent: Lent, sets: &[u8], want: &[u8], want_sums: Sums) -> u64
-    ensures { (result ≡ differs_of file.now lent sets.now want.now want_sums) × (result ≤ 1) }
+#[tactic(auto, unfolding(crate::specs::Calls::differs_of))]
+fn differs(file: &[u8], lent: Lent, sets: &[u8], want: &[u8], want_sums: Sums) -> bool
+    ensures { result ≡ differs_of file.now lent sets.now want.now want_sums }
 {
     let read = campaign_file::read_campaign(file);
     if 65537 < lent.len0 {
-        return 1;
+        return true;
     }
     if 65537 < lent.len1 {
-        return 1;
+        return true;
     }
     match read {
-        Campaign::Read(c) => call_differs(file, c, lent, sets, want, want_sums),
-        Campaign::Refused(stop) => refusal_differs(stop, want),
+        Ok(c) => call_differs(file, c, lent, sets, want, want_sums),
+        Err(stop) => refusal_differs(stop, want),
     }
 }
 
-// The place after the item that begins here.
-fn end_of(bytes: &[u8], at: usize) -> usize
-    requires { at + 16 ≤ length bytes.now }
-    ensures { (result ≡ end_of bytes.now at) × (at + 32 ≤ result) }
+// What an item lends its call, by the item's first 16 bytes.
+#[tactic(auto, unfolding(crate::specs::Calls::lent_of))]
+fn lent_of(head: &[u8]) -> Lent
+    requires { length head.now ≡ 16 }
+    ensures { result ≡ lent_of head.now }
 {
-    at + 32
-        + two(bytes, at) as usize
-        + wide(bytes[at + 10]) as usize
-        + 4 * wide(bytes[at + 13]) as usize
-}
-
-// What the item that begins here lends its call.
-fn lent_of(bytes: &[u8], at: usize) -> Lent
-    requires { at + 16 ≤ length bytes.now }
-    ensures { result ≡ lent_of bytes.now at }
-{
-    let len0 = four(bytes, at + 2) as usize;
-    let len1 = four(bytes, at + 6) as usize;
-    let rule = Rule {
-        first: bytes[at + 11],
-        step: bytes[at + 12],
-    };
-    let log = log_of(two(bytes, at + 14));
     Lent {
-        len0: len0,
-        len1: len1,
-        rule: rule,
-        log: log,
+        len0: number::<4>(head, 2) as usize,
+        len1: number::<4>(head, 6) as usize,
+        rule: Rule {
+            first: head[11],
+            step: head[12],
+        },
+        log: log_of(number::<2>(head, 14)),
     }
 }
 
-// The item that begins here and ends there.
-fn item_differs(bytes: &[u8], at: usize, end: usize) -> u64
-    requires { (at + 32 ≤ end) × (end ≤ length bytes.now) }
-    ensures { (result ≡ item_differs_of bytes.now at end) × (result ≤ 1) }
-{
-    let lent = lent_of(bytes, at);
-    let from = at + 16;
-    let to = end - 16;
-    let middle = from + two(bytes, at) as usize;
-    let last = middle + wide(bytes[at + 10]) as usize;
-    if to < last {
-        return 1;
+impl<'a> Items<'a> {
+    // So many bytes; nothing where fewer are left.
+    #[tactic(auto, unfolding(crate::specs::Calls::taken))]
+    fn take(&mut self, len: usize) -> Option<&'a [u8]>
+        ensures taken { MatchOption result (taken len self.old.left.now ≡ None) (λ part. taken len self.old.left.now ≡ Some (part.now, self.new.left.now)) }
+        ensures len { IfSome result (λ part. (length part.now ≡ len) × (length self.new.left.now + len ≡ length self.old.left.now)) }
+    {
+        let (part, left) = self.left.split_at_checked(len)?;
+        self.left = left;
+        Some(part)
     }
-    let want_sums = Sums {
-        first: eight(bytes, to),
-        second: eight(bytes, to + 8),
-    };
-    differs(
-        &bytes[from..middle],
-        lent,
-        &bytes[last..to],
-        &bytes[middle..last],
-        want_sums,
-    )
-}
 
-// What is found at a place of the list: where the next item begins, and 1 where the call differs.
-#[derive(Clone, Copy)]
-struct Found {
-    end: usize,
-    differs: u64,
-}
-
-// The item that begins here. One that is cut off counts as a call that differs, and ends the list.
-fn item(bytes: &[u8], at: usize) -> Found
-    requires { at + 1 ≤ length bytes.now }
-    ensures { (result ≡ item_of bytes.now at) × (at + 1 ≤ result.end) × (result.end ≤ length bytes.now) × (result.differs ≤ 1) }
-{
-    let all = bytes.len();
-    if all - at < 16 {
-        return Found {
-            end: all,
-            differs: 1,
+    // Does the first item's call differ? Nothing where the item is cut off.
+    #[tactic(auto, unfolding(crate::specs::Calls::item_of))]
+    fn item(&mut self) -> Option<bool>
+        ensures item { MatchOption result (item_of self.old.left.now ≡ None) (λ differs. item_of self.old.left.now ≡ Some (differs, self.new.left.now)) }
+        ensures shorter { IfSome result (λ _. length self.new.left.now + 32 ≤ length self.old.left.now) }
+    {
+        let head = self.take(16)?;
+        let file = self.take(number::<2>(head, 0) as usize)?;
+        let line = self.take(usize::from(head[10]))?;
+        let sets = self.take(4 * usize::from(head[13]))?;
+        let sums = self.take(16)?;
+        let want_sums = Sums {
+            first: number::<8>(sums, 0),
+            second: number::<8>(sums, 8),
         };
-    }
-    let end = end_of(bytes, at);
-    if all < end {
-        return Found {
-            end: all,
-            differs: 1,
-        };
-    }
-    let found = item_differs(bytes, at, end);
-    Found {
-        end: end,
-        differs: found,
+        Some(differs(file, lent_of(head), sets, line, want_sums))
     }
 }
 
-// The whole list.
+// The whole list. An item that is cut off counts as a call that differs, and ends the list.
+#[tactic(auto, using(crate::proofs::Listed::none_counted, crate::proofs::Listed::one_counted, crate::proofs::Listed::cut_counted, crate::proofs::Listed::all_counted))]
 fn replay(bytes: &[u8]) -> Tally
     ensures { (result ≡ replay_of bytes.now) × (result.differ ≤ result.calls) × (result.calls ≤ length bytes.now) }
 {
-    let mut at = 0;
+    let mut items = Items { left: bytes };
     let mut calls: u64 = 0;
     let mut differ: u64 = 0;
-    while at < bytes.len() {
-        let found = item(bytes, at);
-        at = found.end;
+    while !items.left.is_empty() {
         calls += 1;
-        differ += found.differs;
+        let Some(differs) = items.item() else {
+            differ += 1;
+            return Tally { calls, differ };
+        };
+        differ += u64::from(differs);
     }
-    Tally {
-        calls: calls,
-        differ: differ,
-    }
+    Tally { calls, differ }
 }
 
 // The part of the list in an open file; the error of a read that fails.
@@ -516,26 +384,24 @@ fn replay_path<R: Files>(rt: &R, path: &str) -> io::Result<Tally>
 }
 
 // Both parts of the list, modulo 2^64.
+#[tactic(auto, unfolding(crate::specs::Numbers::both_of))]
 fn both(a: Tally, b: Tally) -> Tally
     ensures { result ≡ both_of a b }
 {
-    let calls = std::num::wrapping_add_u64(a.calls, b.calls);
-    let differ = std::num::wrapping_add_u64(a.differ, b.differ);
     Tally {
-        calls: calls,
-        differ: differ,
+        calls: a.calls.wrapping_add(b.calls),
+        differ: a.differ.wrapping_add(b.differ),
     }
 }
 
 // Replays the eight parts and prints the counts. A file that cannot be opened or read ends the program with its error, and no count is printed.
 fn main(rt: HostRuntime) -> io::Result<()> {
-    let tally = replay_path(&rt, "answers0.bin")?;
-    let tally = both(tally, replay_path(&rt, "answers1.bin")?);
-    let tally = both(tally, replay_path(&rt, "answers2.bin")?);
-    let tally = both(tally, replay_path(&rt, "answers3.bin")?);
-    let tally = both(tally, replay_path(&rt, "answers4.bin")?);
-    let tally = both(tally, replay_path(&rt, "answers5.bin")?);
-    let tally = both(tally, replay_path(&rt, "answers6.bin")?);
-    let tally = both(tally, replay_path(&rt, "answers7.bin")?);
+    let mut tally = Tally {
+        calls: 0,
+        differ: 0,
+    };
+    for path in PARTS {
+        tally = both(tally, replay_path(&rt, path)?);
+    }
     println!(rt; "{} calls, {} differ", tally.calls, tally.differ)
 }

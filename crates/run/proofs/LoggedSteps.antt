@@ -41,7 +41,6 @@ told c w s g = rw c (record { part = record { answers = record { answer = refl; 
 
 -- what the loop keeps: completed steps have led here, and their accesses were appended
 pub record Logging (s : Settings) (before : BusLog) (first : Lh5801) (l : Memory) (a : Answer) (n : Memory) (now : BusLog) : Type 0 where
-  pub begun : first.tm < 512
   pub within : a.steps ≤ s.limit
   pub going : a.end ≡ AllSteps
   pub bus : List Access
@@ -49,17 +48,14 @@ pub record Logging (s : Settings) (before : BusLog) (first : Lh5801) (l : Memory
   pub logged : Logged bus before now
   pub lent : SameLent l n
 
-pub logging_start : (s : Settings) (log : BusLog) (m : Lh5801) (l : Memory) → m.tm < 512 → Logging s log m l (answer_of AllSteps 0 0 m) l log
-logging_start s log m l h =
-    record { begun = h; within = omega arith; going = refl; bus = []; reached = start; logged = logged_none; lent = lent_same }
+pub logging_start : (s : Settings) (log : BusLog) (m : Lh5801) (l : Memory) → Logging s log m l (answer_of AllSteps 0 0 m) l log
+logging_start s log m l =
+    record { within = omega arith; going = refl; bus = []; reached = start; logged = logged_none; lent = lent_same }
 
 module _ {s : Settings} {before : BusLog} {first : Lh5801} {l : Memory} {a : Answer} {n : Memory} {now : BusLog} (g : Logging s before first l a n now) where
   -- the whole call
   abbrev call : CallResult
   call = run_of s.limit s.inputs (Some (free_of (held_log before))) first (held l)
-
-  pub logging_small : a.cpu.tm < 512
-  logging_small = reaches_small g.reached g.begun
 
   -- the entries that are free now
   free_now : Some (free_of (held_log now)) ≡ free_after (Some (free_of (held_log before))) g.bus
@@ -111,7 +107,6 @@ module _ {s : Settings} {before : BusLog} {first : Lh5801} {l : Memory} {a : Ans
           → Logging s before first l (answer_of r.end (a.steps + r.steps) (a.states + r.states) r.cpu) o after
       logging_next z =
           record {
-            begun = g.begun;
             within = logging_steps;
             going = rw d.answers.answer (part_end (run_ended 1 s.inputs None a.cpu (held n)) (rw d.answers.answer at z));
             bus = g.bus ++ part.bus;

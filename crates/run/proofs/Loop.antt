@@ -13,7 +13,7 @@ use Rattle.execution.specs.declared.Stop.{Stop}
 use Rattle.execution.specs.Step.{Kind, StepEnd, did, stopped, reached_of, step_of}
 use Rattle.execution.specs.Code.Outcomes.{outcome_of}
 use Rattle.execution.specs.Code.Due.{due_of, Ready}
-use Rattle.execution.proofs.Order.{reached_tm, reached_ready, reached_back, step_reached}
+use Rattle.execution.proofs.Order.{reached_ready, reached_back, step_reached}
 use Rattle.execution.proofs.DueTest.{due_on}
 use Rattle.execution.proofs.StopsClean.{stop_no_write}
 use Rattle.run.specs.declared.Settings.{Settings}
@@ -24,12 +24,11 @@ use Rattle.run.specs.declared.Led.{Led}
 use Rattle.run.specs.Code.Leads.{AheadIs, Leads, LeadsIn, led, unmoved_of}
 use Rattle.run.specs.Answers.{Answers}
 use Rattle.run.specs.Code.States.{answer_of, states_between, AnswersIn}
-use Rattle.run.proofs.Ends.{reaches_run, reaches_stop, reaches_then, reaches_all, reaches_none, reaches_from, reaches_small, reaches_ticks, reaches_most}
+use Rattle.run.proofs.Ends.{reaches_run, reaches_stop, reaches_then, reaches_all, reaches_none, reaches_from, reaches_ticks, reaches_most}
 
 -- after so many completed steps: what they have led to
 pub record Going (inputs : Inputs) (limit : ℕ) (first : Lh5801) (from : Pages) (steps : ℕ) (m : Lh5801) (p : Pages) : Type 0 where
   pub within : steps ≤ limit
-  pub begun : first.tm < 512
   pub states : ℕ
   pub bus : List Access
   pub reached : Reaches inputs None steps first from m p states bus
@@ -47,9 +46,9 @@ pub record Executing (s : Settings) (done : ℕ) (first : Lh5801) (l : Memory) (
   pub kept : Kept s first l more m n
   pub ready : Ready m
 
-pub at_start_lem : (inputs : Inputs) (limit : ℕ) (m : Lh5801) (p : Pages) → m.tm < 512 → Going inputs limit m p 0 m p
-at_start_lem inputs limit m p h =
-    record { within = omega arith; begun = h; states = 0; bus = []; reached = start }
+pub at_start_lem : (inputs : Inputs) (limit : ℕ) (m : Lh5801) (p : Pages) → Going inputs limit m p 0 m p
+at_start_lem inputs limit m p =
+    record { within = omega arith; states = 0; bus = []; reached = start }
 
 -- what a step of the code tells of the definition's, on the pages
 record Outcome (inputs : Inputs) (m : Lh5801) (p : Pages) (r : Result Lh5801 Stop) (q : Pages) : Type 0 where
@@ -81,7 +80,6 @@ module _ {inputs : Inputs} {limit : ℕ} {first : Lh5801} {from : Pages} {steps 
   after_did s kind k h e =
       record {
         within = omega arith;
-        begun = g.begun;
         states = g.states + s;
         bus = g.bus ++ (one_step inputs m p).accesses;
         reached = reaches_then g.reached refl e;
@@ -91,9 +89,6 @@ module _ {inputs : Inputs} {limit : ℕ} {first : Lh5801} {from : Pages} {steps 
   go_on {q = q} h d =
       did_outcome (one_step inputs m p).answer (λ k. Going inputs limit first from (steps + 1) k q) d.value
       (λ s kind k e. subst (Going inputs limit first from (steps + 1) k) d.pages (after_did s kind k h e))
-
-  pub small : m.tm < 512
-  small = reaches_small g.reached g.begun
 
   -- the states so far, from the ticks
   counted : inputs.idle ≤ 255 → limit ≤ 1_000_000 → states_between first.ticks m.ticks ≡ g.states
@@ -109,7 +104,6 @@ module _ {inputs : Inputs} {limit : ℕ} {first : Lh5801} {from : Pages} {steps 
   led_on l =
       record {
         within = l.within;
-        begun = g.begun;
         states = g.states + l.states;
         bus = g.bus ++ l.bus;
         reached = rw l.steps (reaches_all g.reached l.reached);
@@ -125,9 +119,9 @@ module _ {inputs : Inputs} {limit : ℕ} {first : Lh5801} {from : Pages} {steps 
 
 -- one step is a stretch
 module _ {inputs : Inputs} {done limit : ℕ} {m : Lh5801} {p q : Pages} (room : done < limit) where
-  did_leads : {k : Lh5801} → m.tm < 512 → Outcome inputs m p (Ok k) q → Leads inputs done limit m p (led (done + 1) k None) q
-  did_leads h d =
-      let g : Going inputs 1 m p 1 _ q = go_on (at_start_lem inputs 1 m p h) (omega arith) d in
+  did_leads : {k : Lh5801} → Outcome inputs m p (Ok k) q → Leads inputs done limit m p (led (done + 1) k None) q
+  did_leads d =
+      let g : Going inputs 1 m p 1 _ q = go_on (at_start_lem inputs 1 m p) (omega arith) d in
       record { more = 1; steps = refl; within = omega arith; states = g.states; bus = g.bus; reached = g.reached; ahead = omega arith }
 
   stop_leads : {s : Stop} → Outcome inputs m p (Err s) q → Leads inputs done limit m p (led done m (Some s)) q
@@ -135,9 +129,9 @@ module _ {inputs : Inputs} {done limit : ℕ} {m : Lh5801} {p q : Pages} (room :
       let t = stop_step d in
       rw t.1 (record { more = 0; steps = omega arith; within = omega arith; states = 0; bus = []; reached = start; ahead = (room, t.0) })
 
-pub one_did : {s : Settings} {done : ℕ} {m k : Lh5801} {l n : Memory} → done < s.limit → m.tm < 512 → Does (mapped outcome_of (step_of m s.inputs)) l (Ok k) n
+pub one_did : {s : Settings} {done : ℕ} {m k : Lh5801} {l n : Memory} → done < s.limit → Does (mapped outcome_of (step_of m s.inputs)) l (Ok k) n
     → LeadsIn s done m l (led (done + 1) k None) n
-one_did {s} {m = m} h t d = record { leads = did_leads h t (outcome s.inputs m d); lent = d.lent }
+one_did {s} {m = m} h d = record { leads = did_leads h (outcome s.inputs m d); lent = d.lent }
 
 pub one_stops : {s : Settings} {done : ℕ} {m : Lh5801} {l n : Memory} {x : Stop} → done < s.limit → Does (mapped outcome_of (step_of m s.inputs)) l (Err x) n
     → LeadsIn s done m l (led done m (Some x)) n
@@ -158,15 +152,15 @@ unfolding unmoved_of
 unmoved_same m = requested_same m
 
 -- the loop over instructions, from its start on
-pub executing_start : {s : Settings} {done : ℕ} (m : Lh5801) {l : Memory} {first : Lh5801} → m.tm < 512 → due_of m ≡ true → done < s.limit → first ≡ reached_of m
+pub executing_start : {s : Settings} {done : ℕ} (m : Lh5801) {l : Memory} {first : Lh5801} → due_of m ≡ true → done < s.limit → first ≡ reached_of m
     → Executing s done first l done first l
-executing_start {s} m {l = l} low due room moved =
+executing_start {s} m {l = l} due room moved =
     rw moved
     (record {
       more = 0;
       steps_are = omega arith;
       room = room;
-      kept = record { going = at_start_lem s.inputs s.limit (reached_of m) (held l) (rw (reached_tm m) low); lent = lent_same };
+      kept = record { going = at_start_lem s.inputs s.limit (reached_of m) (held l); lent = lent_same };
       ready = reached_ready m due;
     })
 
@@ -235,8 +229,8 @@ module _ {s : Settings} {done : ℕ} {first : Lh5801} {l : Memory} {steps : ℕ}
         }
 
 -- the loop over stretches
-pub kept_start : {s : Settings} {m : Lh5801} {l : Memory} → m.tm < 512 → Kept s m l 0 m l
-kept_start {s} {m} {l} h = record { going = at_start_lem s.inputs s.limit m (held l) h; lent = lent_same }
+pub kept_start : {s : Settings} {m : Lh5801} {l : Memory} → Kept s m l 0 m l
+kept_start {s} {m} {l} = record { going = at_start_lem s.inputs s.limit m (held l); lent = lent_same }
 
 module _ {s : Settings} {first : Lh5801} {l : Memory} {steps : ℕ} {m : Lh5801} {n : Memory} (g : Kept s first l steps m n) where
   pub at_limit : s.limit ≤ steps → s.inputs.idle ≤ 255 → s.limit ≤ 1_000_000

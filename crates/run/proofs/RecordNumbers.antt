@@ -1,6 +1,7 @@
 -- Laws of a record as numbers: a record's numbers give it back, and flags of nine bits are those of their record.
 use Rattle.std.proofs.Common.{◌≡◌, ℕ, zero, suc, ◌+◌, ◌*◌, ◌/◌, ◌%◌, ◌<◌, ◌≤◌, Bool, true, false, eqb, List, [], ◌∷◌, ◌++◌, length, get_or, drop, refl, ap, ◌∙◌, arith, drop_of_length-le, drop-cons}
 use Rattle.arithmetic.specs.declared.record.Lh5801.{Lh5801}
+use Rattle.std.specs.Int.{from_bool}
 use Rattle.arithmetic.specs.Flags.{bit_of}
 use Rattle.arithmetic.proofs.Bytes.{bit_small}
 use Rattle.run.specs.RecordNumbers.{flags_of, record_numbers, record_of, AllWithin}
@@ -32,6 +33,11 @@ within_append (most ∷ mosts) [] more others e h g = absurd h
 within_append (most ∷ mosts) (value ∷ values) more others e h g = (h.0, within_append mosts values more others (omega arith) h.1 g)
 
 -- ---- from a record to its numbers and back
+
+-- `u16::from` of a flag is its bit
+pub from_bool_bit : (b : Bool) → from_bool b ≡ bit_of b
+from_bool_bit true = refl
+from_bool_bit false = refl
 
 bit_is : (b : Bool) → eqb (bit_of b) 1 ≡ b
 bit_is true = refl

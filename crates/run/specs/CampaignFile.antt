@@ -118,10 +118,8 @@ abbrev pub parsed_of : List ℕ → PagePlace → PagePlace → Parsed
 parsed_of values page0 page1 = record {
   cpu = record_of values;
   asked = asked_of values;
-  page0_at = page0.at;
-  page0_len = page0.len;
-  page1_at = page1.at;
-  page1_len = page1.len;
+  page0 = page0;
+  page1 = page1;
 }
 
 -- nothing is left over
@@ -183,8 +181,8 @@ abbrev pub contents_of : List ℕ → Parsed → Contents
 contents_of bytes c = record {
   cpu = c.cpu;
   asked = c.asked;
-  page0 = take c.page0_len (drop c.page0_at bytes);
-  page1 = take c.page1_len (drop c.page1_at bytes);
+  page0 = take c.page0.len (drop c.page0.at bytes);
+  page1 = take c.page1.len (drop c.page1.at bytes);
 }
 
 -- the contents of a file, or why it is turned down

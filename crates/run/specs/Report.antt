@@ -14,7 +14,7 @@ use Rattle.run.specs.Line.{line_of, refusal_line_of}
 
 -- the two pages that a file holds
 abbrev pub pages_in : List ℕ → Parsed → Pages
-pages_in bytes c = pages (part bytes c.page0_at c.page0_len) (part bytes c.page1_at c.page1_len)
+pages_in bytes c = pages (part bytes c.page0.at c.page0.len) (part bytes c.page1.at c.page1.len)
 
 -- what a call is given by what a file asks: nothing but the keyboard byte and the limit
 abbrev pub settings_in : Asked → Settings

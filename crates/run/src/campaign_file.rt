@@ -1,9 +1,9 @@
 // Document 01's campaign file: the record, the keyboard byte and the limit, and the two pages of one call, as bytes.
-// The reading place goes in by value, as a `Cursor`, and comes back; each field is either read with its next place or turned down.
-ghost use Rattle.std.specs.Prelude.{◌≡◌, ◌<◌, length, slice_index};
+// A `Cursor` goes over the bytes; each field is read from its place on, and the place moves to the field's end, or the field is turned down.
+ghost use Rattle.std.specs.Prelude.{◌≡◌, length};
 ghost use Rattle.run.specs.RecordNumbers.{AllWithin};
 ghost use Rattle.run.specs.CampaignFile.{refusal_number, refusal_offset, checked_of, number_of, greatest_values, numbers_of, page_of, parsed_of, campaign_of};
-ghost use Rattle.run.specs.Code.FileAnswers.{number_field, numbers_field, page_field, number_stop, numbers_stop, page_stop, campaign_answer};
+ghost use Rattle.run.specs.Code.FileAnswers.{field_of};
 
 use crate::record_numbers;
 use arithmetic::record::Lh5801;
@@ -26,9 +26,10 @@ const GREATEST: [u64; 14] = [
     0xffff_ffff,
 ];
 
-// A place of the file.
+// The bytes of a file, and a place of it.
 #[derive(Clone, Copy)]
-pub struct Cursor {
+pub struct Cursor<'a> {
+    pub bytes: &'a [u8],
     pub at: usize,
 }
 
@@ -41,20 +42,6 @@ pub enum Refusal {
     Unfit(usize),
     // 10: bytes are left over, and this is the first
     LeftOver(usize),
-}
-
-// A number with the place after it, or why the file is turned down.
-#[derive(Clone, Copy)]
-pub enum Number {
-    Read(u64, Cursor),
-    Refused(Refusal),
-}
-
-// The place after the fourteen numbers, or why the file is turned down.
-#[derive(Clone, Copy)]
-pub enum NumbersRead {
-    Read(Cursor),
-    Refused(Refusal),
 }
 
 // What the file asks of the call: its keyboard byte and its limit.
@@ -71,28 +58,13 @@ pub struct PagePlace {
     pub len: usize,
 }
 
-// A page with the place after it, or why the file is turned down.
-#[derive(Clone, Copy)]
-pub enum PageRead {
-    Read(PagePlace, Cursor),
-    Refused(Refusal),
-}
-
 // What a campaign file says: the record, what is asked of the call, and where the two pages' bytes lie in the file.
 #[derive(Clone, Copy)]
 pub struct Parsed {
     pub cpu: Lh5801,
     pub asked: Asked,
-    pub page0_at: usize,
-    pub page0_len: usize,
-    pub page1_at: usize,
-    pub page1_len: usize,
-}
-
-#[derive(Clone, Copy)]
-pub enum Campaign {
-    Read(Parsed),
-    Refused(Refusal),
+    pub page0: PagePlace,
+    pub page1: PagePlace,
 }
 
 impl Refusal {
@@ -119,129 +91,90 @@ impl Refusal {
     }
 }
 
-impl Number {
-    // The refusal to hand upward. An answer that has none gives the place after what was read, as a refusal.
-    fn stop(self) -> Refusal
-        ensures { result ≡ number_stop self }
+impl Cursor<'_> {
+    // What is checked after a number's last group: it has to be written in the shortest way and to be at most its field's greatest value.
+    fn checked(
+        &mut self,
+        next: usize,
+        value: u64,
+        shortest: bool,
+        greatest: u64,
+    ) -> Result<u64, Refusal>
+        ensures field { checked_of self.old.at next value shortest greatest ≡ field_of result self.new.at }
+        ensures file { self.new.bytes ≡ self.old.bytes }
     {
-        match self {
-            Number::Refused(stop) => stop,
-            Number::Read(_, next) => Refusal::Ends(next.at),
+        if shortest && value <= greatest {
+            self.at = next;
+            Ok(value)
+        } else {
+            Err(Refusal::Unfit(self.at))
         }
     }
-}
 
-impl NumbersRead {
-    // The refusal to hand upward. An answer that has none gives the place after what was read, as a refusal.
-    fn stop(self) -> Refusal
-        ensures { result ≡ numbers_stop self }
-    {
-        match self {
-            NumbersRead::Refused(stop) => stop,
-            NumbersRead::Read(next) => Refusal::Ends(next.at),
-        }
-    }
-}
-
-impl PageRead {
-    // The refusal to hand upward. An answer that has none gives the place after what was read, as a refusal.
-    fn stop(self) -> Refusal
-        ensures { result ≡ page_stop self }
-    {
-        match self {
-            PageRead::Refused(stop) => stop,
-            PageRead::Read(_, next) => Refusal::Ends(next.at),
-        }
-    }
-}
-
-// What is checked after a number's last group: it has to be written in the shortest way and to be at most its field's greatest value.
-fn checked(begin: usize, next: usize, value: u64, shortest: bool, greatest: u64) -> Number
-    ensures { checked_of begin next value shortest greatest ≡ number_field result }
-{
-    if shortest {
-        if value <= greatest {
-            return Number::Read(value, Cursor { at: next });
-        }
-    }
-    Number::Refused(Refusal::Unfit(begin))
-}
-
-// The greatest value of the number at this place.
-fn greatest(i: usize) -> u64
-    requires { i < 14 }
-    ensures { result ≡ slice_index greatest_values i }
-{
-    GREATEST[i]
-}
-
-impl Cursor {
     // One number: groups of seven bits, the lowest first, the top bit set on all but the last.
-    pub fn number(self, bytes: &[u8], greatest: u64) -> Number
-        ensures { number_of greatest bytes.now self.at ≡ number_field result }
+    pub fn number(&mut self, greatest: u64) -> Result<u64, Refusal>
+        ensures field { number_of greatest self.old.bytes.now self.old.at ≡ field_of result self.new.at }
+        ensures file { self.new.bytes ≡ self.old.bytes }
     {
         let begin = self.at;
-        let mut at = begin;
+        let Some(rest) = self.bytes.get(begin..) else {
+            return Err(Refusal::Ends(begin));
+        };
         let mut weight: u64 = 1;
         let mut value: u64 = 0;
-        while at - begin < 9 {
-            if bytes.len() <= at {
-                return Number::Refused(Refusal::Ends(begin));
-            }
-            let group = record_numbers::byte_number(bytes[at]);
+        for count in 0..9 {
+            let Some(&byte) = rest.get(count) else {
+                return Err(Refusal::Ends(begin));
+            };
+            let group = u64::from(byte);
             if group < 128 {
-                let shortest = (at == begin) | (group != 0);
-                return checked(begin, at + 1, value + weight * group, shortest, greatest);
+                let shortest = (count == 0) | (group != 0);
+                return self.checked(
+                    begin + count + 1,
+                    value + weight * group,
+                    shortest,
+                    greatest,
+                );
             }
-            value = value + weight * (group % 128);
-            weight = weight * 128;
-            at = at + 1;
+            value += weight * (group % 128);
+            weight *= 128;
         }
         // The tenth group weighs 2^63: only 1 is neither longer than needed nor too great.
-        if bytes.len() <= at {
-            return Number::Refused(Refusal::Ends(begin));
-        }
-        if bytes[at] == 1 {
-            checked(begin, at + 1, value + 0x8000_0000_0000_0000, true, greatest)
+        let Some(&byte) = rest.get(9) else {
+            return Err(Refusal::Ends(begin));
+        };
+        if byte == 1 {
+            self.checked(begin + 10, value + 0x8000_0000_0000_0000, true, greatest)
         } else {
-            Number::Refused(Refusal::Unfit(begin))
+            Err(Refusal::Unfit(begin))
         }
     }
 
     // The fourteen numbers, one after another.
-    pub fn numbers(self, bytes: &[u8], values: &mut [u64]) -> NumbersRead
-        requires { length values.old ≡ 14 }
-        ensures { numbers_of greatest_values bytes.now self.at ≡ numbers_field values.new result }
+    pub fn numbers(&mut self) -> Result<[u64; 14], Refusal>
+        ensures field { numbers_of greatest_values self.old.bytes.now self.old.at ≡ field_of result self.new.at }
+        ensures file { self.new.bytes ≡ self.old.bytes }
     {
-        let mut c = self;
-        let mut i = 0;
-        while i < 14 {
-            let answer = c.number(bytes, greatest(i));
-            let Number::Read(value, next) = answer else {
-                return NumbersRead::Refused(answer.stop());
-            };
-            values[i] = value;
-            c = next;
-            i += 1;
+        let mut values = [0u64; 14];
+        for (i, greatest) in GREATEST.iter().enumerate() {
+            values[i] = self.number(*greatest)?;
         }
-        NumbersRead::Read(c)
+        Ok(values)
     }
 
     // A page's length, then so many bytes.
-    pub fn page(self, bytes: &[u8]) -> PageRead
-        ensures { page_of bytes.now self.at ≡ page_field result }
+    #[tactic(auto, using(crate::proofs::CampaignFile::Number::number_within), unfolding(crate::specs::CampaignFile::page_of, crate::specs::CampaignFile::bytes_of))]
+    pub fn page(&mut self) -> Result<PagePlace, Refusal>
+        ensures field { page_of self.old.bytes.now self.old.at ≡ field_of result self.new.at }
+        ensures file { self.new.bytes ≡ self.old.bytes }
     {
-        let c = self;
-        let answer = c.number(bytes, 16384);
-        let Number::Read(length, c) = answer else {
-            return PageRead::Refused(answer.stop());
-        };
-        let at = c.at;
-        let len = length as usize;
-        if bytes.len() < at + len {
-            return PageRead::Refused(Refusal::Ends(at));
+        let len = self.number(16384)? as usize;
+        let at = self.at;
+        if self.bytes.len() < at + len {
+            return Err(Refusal::Ends(at));
         }
-        PageRead::Read(PagePlace { at: at, len: len }, Cursor { at: at + len })
+        self.at = at + len;
+        Ok(PagePlace { at, len })
     }
 }
 
@@ -256,36 +189,24 @@ fn parsed_of(values: &[u64; 14], page0: PagePlace, page1: PagePlace) -> Parsed
         limit: values[13] as u32,
     };
     Parsed {
-        cpu: cpu,
-        asked: asked,
-        page0_at: page0.at,
-        page0_len: page0.len,
-        page1_at: page1.at,
-        page1_len: page1.len,
+        cpu,
+        asked,
+        page0,
+        page1,
     }
 }
 
 // A whole campaign file: its fields in order, and then no byte more.
-pub fn read_campaign(bytes: &[u8]) -> Campaign
-    ensures { result ≡ campaign_answer (campaign_of bytes.now 0) }
+#[tactic(auto, using(crate::proofs::CampaignFile::InTurn::page_read, crate::proofs::CampaignFile::InTurn::numbers_within), unfolding(crate::specs::CampaignFile::campaign_of, crate::specs::CampaignFile::ended))]
+pub fn read_campaign(bytes: &[u8]) -> Result<Parsed, Refusal>
+    ensures { campaign_of bytes.now 0 ≡ field_of result (length bytes.now) }
 {
-    let c = Cursor { at: 0 };
-    let mut values = [0u64; 14];
-    let answer = c.numbers(bytes, &mut values);
-    let NumbersRead::Read(c) = answer else {
-        return Campaign::Refused(answer.stop());
-    };
-    let answer = c.page(bytes);
-    let PageRead::Read(page0, c) = answer else {
-        return Campaign::Refused(answer.stop());
-    };
-    let answer = c.page(bytes);
-    let PageRead::Read(page1, c) = answer else {
-        return Campaign::Refused(answer.stop());
-    };
-    let at = c.at;
-    if at < bytes.len() {
-        return Campaign::Refused(Refusal::LeftOver(at));
+    let mut cursor = Cursor { bytes, at: 0 };
+    let values = cursor.numbers()?;
+    let page0 = cursor.page()?;
+    let page1 = cursor.page()?;
+    if cursor.at < bytes.len() {
+        return Err(Refusal::LeftOver(cursor.at));
     }
-    Campaign::Read(parsed_of(&values, page0, page1))
+    Ok(parsed_of(&values, page0, page1))
 }

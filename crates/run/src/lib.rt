@@ -115,7 +115,7 @@ fn unmoved(moved: Lh5801, before: Lh5801) -> Lh5801
 
 // Instruction after instruction, for as long as nothing else can be due; so many steps were completed before.
 fn instructions(cpu: Lh5801, memory: &mut Memory, settings: Settings, done: u32) -> Led
-    requires { (cpu.tm < 512) × (due_of cpu ≡ true) × (done < settings.limit) }
+    requires { (due_of cpu ≡ true) × (done < settings.limit) }
     ensures { LeadsIn settings done cpu memory.entry.now result memory.exit.now }
 {
     let mut current = execution::reached(cpu);
@@ -162,7 +162,7 @@ fn instructions(cpu: Lh5801, memory: &mut Memory, settings: Settings, done: u32)
 // One step in which no instruction is due; so many were completed before.
 #[tactic(auto, using(crate::proofs::Loop::one_did, crate::proofs::Loop::one_stops))]
 fn other_step(cpu: Lh5801, memory: &mut Memory, settings: Settings, done: u32) -> Led
-    requires { (cpu.tm < 512) × (due_of cpu ≡ false) × (done < settings.limit) }
+    requires { (due_of cpu ≡ false) × (done < settings.limit) }
     ensures { LeadsIn settings done cpu memory.entry.now result memory.exit.now }
 {
     match execution::step_cpu(cpu, memory, settings.inputs) {
@@ -181,7 +181,7 @@ fn other_step(cpu: Lh5801, memory: &mut Memory, settings: Settings, done: u32) -
 
 // The next steps: instructions for as long as they are due, or one step of another kind; so many were completed before.
 fn advance(cpu: Lh5801, memory: &mut Memory, settings: Settings, done: u32) -> Led
-    requires { (cpu.tm < 512) × (done < settings.limit) }
+    requires { done < settings.limit }
     ensures { LeadsIn settings done cpu memory.entry.now result memory.exit.now }
 {
     if !execution::due(cpu) {
@@ -192,7 +192,7 @@ fn advance(cpu: Lh5801, memory: &mut Memory, settings: Settings, done: u32) -> L
 
 // Steps up to the limit, or to the first that stops, without a log.
 fn steps_of(cpu: Lh5801, memory: &mut Memory, settings: Settings) -> Answer
-    requires { (cpu.tm < 512) × (settings.limit ≤ 1000000) }
+    requires { settings.limit ≤ 1000000 }
     ensures { AnswersIn (run_of settings.limit settings.inputs None cpu (at_entry memory)) memory.entry.now result memory.exit.now }
 {
     let first = cpu.ticks;
@@ -243,7 +243,7 @@ fn total(before: Answer, after: Answer) -> Answer
 
 // The same with a log: it is looked at before each step.
 fn logged_steps(cpu: Lh5801, memory: &mut Memory, log: &mut BusLog, settings: Settings) -> Answer
-    requires { (cpu.tm < 512) × (settings.limit ≤ 1000000) }
+    requires { settings.limit ≤ 1000000 }
     ensures { LoggedIn (run_of settings.limit settings.inputs (Some (free_of (held_log log.old))) cpu (at_entry memory)) memory.entry.now result memory.exit.now log.old log.new }
 {
     let one = Settings {

@@ -1,24 +1,31 @@
-// The line that the program prints, as bytes in a buffer. The place goes in and comes back: each function writes from it on and returns the
-// place after what it wrote.
+// The line that the program prints, as bytes that are written one after another.
 // The longest line has 138 bytes: 3 + 10 + 20 digits for number, steps and states, 2 + 2 + 5 * 4 + 3 + 3 hex digits, 3 * 20 digits for the
 // counters, and a byte after each of the 15 fields. With every decimal field taken at 20 digits it is 165, which a buffer of 200 holds.
-ghost use Rattle.std.specs.Prelude.{◌≡◌, ◌+◌, ◌<◌, ◌≤◌, [], ◌∷◌, ◌++◌, length};
+ghost use Rattle.std.specs.Prelude.{◌≡◌, ◌+◌, ◌<◌, ◌≤◌, List, ℕ, [], ◌∷◌, ◌++◌, length, take};
 ghost use Rattle.run.specs.Line.{Printed, space, hex_digit, decimal_of, hex_of, joined, count_fields, register_fields, counter_fields, line_of, refusal_line_of};
-ghost use Rattle.run.specs.Code.LineParts.{Put, spaced};
+ghost use Rattle.run.specs.Code.LineParts.{spaced};
 
 use crate::record_numbers;
 use arithmetic::record::Lh5801;
+use std::marker::Model;
 
-const SPACE: u8 = 32;
+const SPACE: u8 = b' ';
 
-const NEWLINE: u8 = 10;
+const NEWLINE: u8 = b'\n';
 
-fn put(buffer: &mut [u8], at: usize, byte: u8) -> usize
-    requires { at < length buffer.old }
-    ensures { Put buffer.old at (byte ∷ []) buffer.new result }
-{
-    buffer[at] = byte;
-    at + 1
+// The bytes of a line, as far as it is written.
+#[derive(Drop)]
+struct LineText {
+    bytes: [u8; 200],
+    len: usize,
+}
+
+impl Model for LineText {
+    ghost Value = { List ℕ };
+
+    ghost view = { λ l. take l.len l.bytes };
+
+    ghost invariant = { λ l. l.len ≤ 200 };
 }
 
 // A hex digit, in capitals.
@@ -26,124 +33,143 @@ fn hex_digit(value: u16) -> u8
     requires { value < 16 }
     ensures { result ≡ hex_digit value }
 {
-    if value < 10 {
-        48 + value as u8
-    } else {
-        55 + value as u8
+    b"0123456789ABCDEF"[value as usize]
+}
+
+impl LineText {
+    fn new() -> LineText
+        ensures { result ≡ [] }
+    {
+        LineText {
+            bytes: [0; 200],
+            len: 0,
+        }
     }
-}
 
-// The digits of a number, without leading zeros.
-fn put_decimal(buffer: &mut [u8], at: usize, value: u64) -> usize
-    requires { at + length (decimal_of value) ≤ length buffer.old }
-    ensures { Put buffer.old at (decimal_of value) buffer.new result }
-{
-    if value < 10 {
-        put(buffer, at, 48 + value as u8)
-    } else {
-        let next = put_decimal(buffer, at, value / 10);
-        put(buffer, next, 48 + (value % 10) as u8)
+    fn push(&mut self, byte: u8)
+        requires { length self.old < 200 }
+        ensures bytes { self.new ≡ self.old ++ (byte ∷ []) }
+        ensures len { length self.new ≡ length self.old + 1 }
+    {
+        self.bytes[self.len] = byte;
+        self.len += 1;
     }
-}
 
-// So many hex digits of a number, the lowest ones.
-fn put_hex(buffer: &mut [u8], at: usize, value: u16, digits: u8) -> usize
-    requires { at + digits ≤ length buffer.old }
-    ensures { Put buffer.old at (hex_of digits value) buffer.new result }
-{
-    if digits == 0 {
-        at
-    } else {
-        let next = put_hex(buffer, at, value / 16, digits - 1);
-        let digit = hex_digit(value % 16);
-        put(buffer, next, digit)
+    // The digits of a number, without leading zeros.
+    #[tactic(auto, using(crate::proofs::PrintedLine::decimal_one, crate::proofs::PrintedLine::decimal_more, crate::proofs::PrintedLine::length_one, crate::proofs::PrintedLine::length_more, std::proofs::Common::append_assoc))]
+    fn put_decimal(&mut self, value: u64)
+        requires { length self.old + length (decimal_of value) ≤ 200 }
+        ensures bytes { self.new ≡ self.old ++ decimal_of value }
+        ensures len { length self.new ≡ length self.old + length (decimal_of value) }
+    {
+        if value < 10 {
+            self.push(b'0' + value as u8);
+        } else {
+            self.put_decimal(value / 10);
+            self.push(b'0' + (value % 10) as u8);
+        }
     }
-}
 
-// A decimal field, and the byte after it.
-fn decimal(buffer: &mut [u8], at: usize, value: u64, after: u8) -> usize
-    requires { at + 21 ≤ length buffer.old }
-    ensures { Put buffer.old at (decimal_of value ++ (after ∷ [])) buffer.new result }
-{
-    let next = put_decimal(buffer, at, value);
-    put(buffer, next, after)
-}
+    // So many hex digits of a number, the lowest ones.
+    #[tactic(auto, using(crate::proofs::PrintedLine::hex_more), unfolding(crate::specs::Line::hex_of))]
+    fn put_hex(&mut self, value: u16, digits: u8)
+        requires { length self.old + digits ≤ 200 }
+        ensures bytes { self.new ≡ self.old ++ hex_of digits value }
+        ensures len { length self.new ≡ length self.old + digits }
+    {
+        if 0 < digits {
+            self.put_hex(value / 16, digits - 1);
+            self.push(hex_digit(value % 16));
+        }
+    }
 
-// A field of so many hex digits, and the space after it.
-fn hex(buffer: &mut [u8], at: usize, value: u16, digits: u8) -> usize
-    requires { at + digits + 1 ≤ length buffer.old }
-    ensures { Put buffer.old at (hex_of digits value ++ (space ∷ [])) buffer.new result }
-{
-    let next = put_hex(buffer, at, value, digits);
-    put(buffer, next, SPACE)
-}
+    // A decimal field, and the byte after it.
+    #[tactic(auto, using(crate::proofs::PrintedLine::length_decimal))]
+    fn decimal(&mut self, value: u64, after: u8)
+        requires { length self.old + 21 ≤ 200 }
+        ensures bytes { self.new ≡ self.old ++ decimal_of value ++ (after ∷ []) }
+        ensures len { length self.new ≤ length self.old + 21 }
+    {
+        self.put_decimal(value);
+        self.push(after);
+    }
 
-// Number, steps and states.
-fn put_counts(buffer: &mut [u8], number: u8, steps: u32, states: u64) -> usize
-    requires { 63 ≤ length buffer.old }
-    ensures { Put buffer.old 0 (spaced (count_fields number steps states)) buffer.new result }
-{
-    let next = decimal(buffer, 0, number as u64, SPACE);
-    let next = decimal(buffer, next, steps as u64, SPACE);
-    decimal(buffer, next, states, SPACE)
-}
+    // A field of so many hex digits, and the space after it.
+    fn hex(&mut self, value: u16, digits: u8)
+        requires { length self.old + digits + 1 ≤ 200 }
+        ensures bytes { self.new ≡ self.old ++ hex_of digits value ++ (space ∷ []) }
+        ensures len { length self.new ≡ length self.old + digits + 1 }
+    {
+        self.put_hex(value, digits);
+        self.push(SPACE);
+    }
 
-// A, T, X, Y, U, S, P, TM and flags.
-fn put_registers(buffer: &mut [u8], at: usize, cpu: Lh5801) -> usize
-    requires { at + 39 ≤ length buffer.old }
-    ensures { Put buffer.old at (spaced (register_fields cpu)) buffer.new result }
-{
-    let next = hex(buffer, at, cpu.a as u16, 2);
-    let next = hex(buffer, next, cpu.t as u16, 2);
-    let next = hex(buffer, next, cpu.x, 4);
-    let next = hex(buffer, next, cpu.y, 4);
-    let next = hex(buffer, next, cpu.u, 4);
-    let next = hex(buffer, next, cpu.s, 4);
-    let next = hex(buffer, next, cpu.p, 4);
-    let next = hex(buffer, next, cpu.tm, 3);
-    let flags = record_numbers::flags_of(cpu);
-    hex(buffer, next, flags, 3)
-}
+    // Number, steps and states.
+    fn counts(&mut self, number: u8, steps: u32, states: u64)
+        requires { length self.old + 63 ≤ 200 }
+        ensures bytes { self.new ≡ self.old ++ spaced (count_fields number steps states) }
+        ensures len { length self.new ≤ length self.old + 63 }
+    {
+        self.decimal(u64::from(number), SPACE);
+        self.decimal(u64::from(steps), SPACE);
+        self.decimal(states, SPACE);
+    }
 
-// Timer states, previous states and ticks, which end the line.
-fn put_counters(buffer: &mut [u8], at: usize, cpu: Lh5801) -> usize
-    requires { at + 63 ≤ length buffer.old }
-    ensures { Put buffer.old at (joined (counter_fields cpu)) buffer.new result }
-{
-    let next = decimal(buffer, at, cpu.timer_state, SPACE);
-    let next = decimal(buffer, next, cpu.step_previous_state, SPACE);
-    decimal(buffer, next, cpu.ticks, NEWLINE)
-}
+    // A, T, X, Y, U, S, P, TM and flags.
+    fn registers(&mut self, cpu: Lh5801)
+        requires { length self.old + 39 ≤ 200 }
+        ensures bytes { self.new ≡ self.old ++ spaced (register_fields cpu) }
+        ensures len { length self.new ≡ length self.old + 39 }
+    {
+        self.hex(u16::from(cpu.a), 2);
+        self.hex(u16::from(cpu.t), 2);
+        self.hex(cpu.x, 4);
+        self.hex(cpu.y, 4);
+        self.hex(cpu.u, 4);
+        self.hex(cpu.s, 4);
+        self.hex(cpu.p, 4);
+        self.hex(cpu.tm, 3);
+        self.hex(record_numbers::flags_of(cpu), 3);
+    }
 
-// A whole line, at the start of the buffer.
-fn put_line(buffer: &mut [u8], number: u8, steps: u32, states: u64, cpu: Lh5801) -> usize
-    requires { 165 ≤ length buffer.old }
-    ensures { Printed buffer.old (line_of number steps states cpu) buffer.new result }
-{
-    let next = put_counts(buffer, number, steps, states);
-    let next = put_registers(buffer, next, cpu);
-    put_counters(buffer, next, cpu)
-}
+    // Timer states, previous states and ticks, which end the line.
+    fn counters(&mut self, cpu: Lh5801)
+        requires { length self.old + 63 ≤ 200 }
+        ensures { self.new ≡ self.old ++ joined (counter_fields cpu) }
+    {
+        self.decimal(cpu.timer_state, SPACE);
+        self.decimal(cpu.step_previous_state, SPACE);
+        self.decimal(cpu.ticks, NEWLINE);
+    }
 
-// The line for 8 to 10.
-fn put_refusal(buffer: &mut [u8], number: u8, offset: u64) -> usize
-    requires { 42 ≤ length buffer.old }
-    ensures { Printed buffer.old (refusal_line_of number offset) buffer.new result }
-{
-    let next = decimal(buffer, 0, number as u64, SPACE);
-    decimal(buffer, next, offset, NEWLINE)
+    // The line's bytes to the start of a buffer; how many they are is returned.
+    fn store(&self, buffer: &mut [u8; 200]) -> usize
+        ensures { Printed buffer.old self.now buffer.new result }
+    {
+        buffer[..self.len].copy_from_slice(&self.bytes[..self.len]);
+        self.len
+    }
 }
 
 // The line of a call: its bytes in the buffer, and how many they are.
+#[tactic(auto, using(std::proofs::Common::append_assoc), unfolding(crate::specs::Line::line_of))]
 pub fn line(buffer: &mut [u8; 200], number: u8, steps: u32, states: u64, cpu: Lh5801) -> usize
     ensures { Printed buffer.old (line_of number steps states cpu) buffer.new result }
 {
-    put_line(buffer, number, steps, states, cpu)
+    let mut text = LineText::new();
+    text.counts(number, steps, states);
+    text.registers(cpu);
+    text.counters(cpu);
+    text.store(buffer)
 }
 
 // The line of a campaign file that is turned down: likewise.
+#[tactic(auto, using(std::proofs::Common::append_assoc), unfolding(crate::specs::Line::refusal_line_of))]
 pub fn refusal_line(buffer: &mut [u8; 200], number: u8, offset: u64) -> usize
     ensures { Printed buffer.old (refusal_line_of number offset) buffer.new result }
 {
-    put_refusal(buffer, number, offset)
+    let mut text = LineText::new();
+    text.decimal(u64::from(number), SPACE);
+    text.decimal(offset, NEWLINE);
+    text.store(buffer)
 }

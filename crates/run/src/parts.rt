@@ -7,15 +7,12 @@ use arithmetic::record::Lh5801;
 use bus::BusLog;
 
 // So many bytes, from a place on, to the start of a page.
+#[tactic(auto, using(crate::proofs::Stored::range_part, crate::proofs::Stored::part_length, crate::proofs::Stored::put_before))]
 pub fn copy_part(bytes: &[u8], at: usize, page: &mut [u8], len: usize)
     requires { (at + len ≤ length bytes.now) × (len ≤ length page.old) }
     ensures { page.new ≡ at_start page.old (part bytes.now at len) }
 {
-    let mut i = 0;
-    while i < len {
-        page[i] = bytes[at + i];
-        i += 1;
-    }
+    page[..len].copy_from_slice(&bytes[at..at + len]);
 }
 
 // The run call on the starts of two pages.

@@ -1,54 +1,36 @@
 // A record as twelve numbers, and back: A, T, X, Y, U, S, P, TM, flags, timer states, previous states and ticks.
 ghost use Rattle.std.specs.Prelude.{◌≡◌, ◌≤◌, length, take};
-ghost use Rattle.arithmetic.specs.Flags.{bit_of};
 ghost use Rattle.run.specs.RecordNumbers.{flags_of, record_numbers, record_of, AllWithin, widths};
 
 use arithmetic::record::Lh5801;
 
-fn bit_of(flag: bool) -> u16
-    ensures { (result ≡ bit_of flag) × (result ≤ 1) }
-{
-    if flag { 1 } else { 0 }
-}
-
 // The flags as one number. Its bits: halted, PU, PV, BF, DISP, IR0, IR1, IR2, timer reached.
+#[tactic(auto, using(crate::proofs::RecordNumbers::from_bool_bit, crate::proofs::RecordNumbers::flags_small), unfolding(crate::specs::RecordNumbers::flags_of))]
 pub fn flags_of(cpu: Lh5801) -> u16
     ensures { (result ≡ flags_of cpu) × (result ≤ 511) }
 {
-    let low = bit_of(cpu.is_halted) + 2 * bit_of(cpu.pu) + 4 * bit_of(cpu.pv) + 8 * bit_of(cpu.bf);
-    let middle = low + 16 * bit_of(cpu.disp) + 32 * bit_of(cpu.ir0) + 64 * bit_of(cpu.ir1);
-    middle + 128 * bit_of(cpu.ir2) + 256 * bit_of(cpu.is_timer_reached)
-}
-
-// 8 bits as a number.
-pub fn byte_number(value: u8) -> u64
-    ensures { (result ≡ value) × (result ≤ 255) }
-{
-    value as u64
-}
-
-// 16 bits as a number.
-fn word_number(value: u16) -> u64
-    ensures { (result ≡ value) × (result ≤ 65535) }
-{
-    value as u64
+    let low = u16::from(cpu.is_halted)
+        + 2 * u16::from(cpu.pu)
+        + 4 * u16::from(cpu.pv)
+        + 8 * u16::from(cpu.bf);
+    let middle = low + 16 * u16::from(cpu.disp) + 32 * u16::from(cpu.ir0) + 64 * u16::from(cpu.ir1);
+    middle + 128 * u16::from(cpu.ir2) + 256 * u16::from(cpu.is_timer_reached)
 }
 
 // The numbers of a record, each within its field's width.
 pub fn from_record(cpu: Lh5801) -> [u64; 12]
     ensures { (result ≡ record_numbers cpu) × AllWithin widths (record_numbers cpu) }
 {
-    let flags = flags_of(cpu);
     [
-        byte_number(cpu.a),
-        byte_number(cpu.t),
-        word_number(cpu.x),
-        word_number(cpu.y),
-        word_number(cpu.u),
-        word_number(cpu.s),
-        word_number(cpu.p),
-        word_number(cpu.tm),
-        word_number(flags),
+        u64::from(cpu.a),
+        u64::from(cpu.t),
+        u64::from(cpu.x),
+        u64::from(cpu.y),
+        u64::from(cpu.u),
+        u64::from(cpu.s),
+        u64::from(cpu.p),
+        u64::from(cpu.tm),
+        u64::from(flags_of(cpu)),
         cpu.timer_state,
         cpu.step_previous_state,
         cpu.ticks,
@@ -56,6 +38,7 @@ pub fn from_record(cpu: Lh5801) -> [u64; 12]
 }
 
 // The record of the first twelve numbers. The counters have 64 bits, as the numbers do, and of the flags nine bits are looked at.
+#[tactic(auto, using(crate::proofs::RecordNumbers::within_at), unfolding(crate::specs::RecordNumbers::record_of))]
 pub fn record_of(numbers: &[u64]) -> Lh5801
     requires { (12 ≤ length numbers.now) × AllWithin (take 8 widths) numbers.now }
     ensures { result ≡ record_of numbers.now }

@@ -1,11 +1,11 @@
 use Rattle.std.proofs.Common.{sym, refl, ◌∙◌}
 use Rattle.execution.proofs.Order.{instruction_listed, instruction_unlisted}
-use Rattle.execution.proofs.DueAgain.{again, executed_small}
+use Rattle.execution.proofs.DueAgain.{again}
 use Rattle.execution.proofs.instruction.Goals as goal
 
 pub returns-then-k : goal.returns-then-k
 returns-then-k c =
-    let ready = c.requires.1 in
+    let ready = c.requires in
     let listed = sym c.decode.ensures ∙ c.in-Some.is in
     let executed = rw c.with_p.ensures at c.execute-next.ensures in
     let settled = sym c.settled.ensures ∙ c.if-settled.true in
@@ -13,7 +13,7 @@ returns-then-k c =
 
 pub returns-else-k : goal.returns-else-k
 returns-else-k c =
-    let ready = c.requires.1 in
+    let ready = c.requires in
     let listed = sym c.decode.ensures ∙ c.in-Some.is in
     let executed = rw c.with_p.ensures at c.execute-next.ensures in
     let settled = sym c.settled.ensures ∙ c.if-settled.true in
@@ -25,17 +25,11 @@ returns-else-k c =
 
 pub returns-else-settled : goal.returns-else-settled
 returns-else-settled c =
-    let ready = c.requires.1 in
+    let ready = c.requires in
     let listed = sym c.decode.ensures ∙ c.in-Some.is in
     let executed = rw c.with_p.ensures at c.execute-next.ensures in
     let settled = sym c.settled.ensures ∙ c.if-settled.false in
     (instruction_listed _ _ ready c.fetch-opcode.ensures listed executed c.add_state-else-settled.ensures c.timer_part.ensures settled refl, tt)
 
 pub returns-in_default : goal.returns-in_default
-returns-in_default c = (instruction_unlisted _ _ c.requires.1 c.fetch-opcode.ensures (sym c.decode.ensures ∙ c.in_default.is) refl, tt)
-
-pub timer_part-k-requires : goal.timer_part-k-requires
-timer_part-k-requires c = executed_small _ _ _ _ _ c.requires.0 (rw c.with_p.ensures at c.execute-next.ensures) c.add_state.ensures
-
-pub timer_part-requires : goal.timer_part-requires
-timer_part-requires c = executed_small _ _ _ _ _ c.requires.0 (rw c.with_p.ensures at c.execute-next.ensures) c.add_state-else-settled.ensures
+returns-in_default c = (instruction_unlisted _ _ c.requires c.fetch-opcode.ensures (sym c.decode.ensures ∙ c.in_default.is) refl, tt)

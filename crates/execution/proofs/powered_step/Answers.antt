@@ -1,19 +1,12 @@
-use Rattle.execution.proofs.Order.{acknowledged_tm, step_held, step_interrupt}
-use Rattle.execution.proofs.DueAgain.{accept_small}
+use Rattle.std.proofs.Common.{refl}
+use Rattle.execution.proofs.Order.{step_held, step_interrupt}
 use Rattle.execution.proofs.powered_step.Goals as goal
-
-pub timer_part-requires : goal.timer_part-requires
-timer_part-requires c = c.requires.0
 
 pub returns-then-cpu : goal.returns-then-cpu
 returns-then-cpu c =
-    step_held _ _ c.requires.1 c.requires.2 c.if-cpu.true c.timer_part.ensures
-
-pub timer_part-requires-then-cpu-get_flag : goal.timer_part-requires-then-cpu-get_flag
-timer_part-requires-then-cpu-get_flag c =
-    accept_small _ _ (rw (c.acknowledged.ensures, acknowledged_tm) c.requires.0) c.accept-next.ensures
+    step_held _ _ c.requires.0 c.requires.1 c.if-cpu.true c.timer_part.ensures
 
 pub returns-then-cpu-get_flag : goal.returns-then-cpu-get_flag
 returns-then-cpu-get_flag c =
-    step_interrupt _ _ c.requires.1 c.requires.2 _ c.get_flag.ensures c.if-cpu.false c.if-cpu-get_flag.true
-    c.acknowledged.ensures c.interrupt_vector-at.ensures c.accept-next.ensures c.timer_part-then-cpu-get_flag.ensures
+    step_interrupt _ _ c.requires.0 c.requires.1 _ c.get_flag.ensures c.if-cpu.false c.if-cpu-get_flag.true
+    refl refl c.accepted.ensures c.timer_part-then-cpu-get_flag.ensures

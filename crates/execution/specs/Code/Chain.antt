@@ -1,7 +1,7 @@
--- How the code is built, and need not be believed: proofs/Table.antt shows that it is the table.
--- The rows of a page one after the other, as the program tries them: each at its own first byte, and the first that lists the byte gives
--- the instruction. `chained (drop i rows) i byte` starts at row i. A byte outside of a row comes to a column past 15, where the row has
--- no entry.
+-- Need not be believed: proofs/Table.antt shows that it is the table.
+-- The rows of a page one after the other, tried each at its own first byte, and the first that lists the byte gives the instruction.
+-- `chained (drop i rows) i byte` starts at row i. A byte outside of a row comes to a column past 15, where the row has no entry. The code
+-- goes to a byte's row by its high digit.
 use Rattle.std.specs.Prelude.{ℕ, suc, ◌+◌, ◌-◌, ◌*◌, ◌%◌, List, [], ◌∷◌, slice_index_or}
 use Rattle.execution.specs.declared.instructions.Listed.{Listed}
 use Rattle.std.specs.Prelude.{Option, Some, None}

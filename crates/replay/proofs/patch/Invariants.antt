@@ -1,9 +1,9 @@
-use Rattle.std.proofs.Common.{◌≡◌, ◌-◌, ◌≤◌, length, drop}
+use Rattle.std.proofs.Common.{◌≡◌, length}
 use Rattle.replay.specs.Bytes.{patch_of}
 use Rattle.replay.proofs.patch.Given as goal
 
-abbrev pub invariant-loop-i : goal.invariant-loop-i
-invariant-loop-i l = (l.i ≤ length l.sets) × (length l.page ≡ length l.initial.page) × (patch_of l.page l.which (drop l.i l.sets) ≡ patch_of l.initial.page l.which l.sets)
+abbrev pub invariant-loop-left : goal.invariant-loop-left
+invariant-loop-left l = patch_of l.page l.which l.left ≡ patch_of l.initial.page l.which l.sets
 
-abbrev pub decreases-loop-i : goal.decreases-loop-i
-decreases-loop-i l = length l.sets - l.i
+abbrev pub decreases-loop-left : goal.decreases-loop-left
+decreases-loop-left l = length l.left

@@ -1,17 +1,17 @@
-use Rattle.replay.proofs.Listed.{none_counted, one_counted, all_counted}
-use Rattle.std.proofs.Common.{rules}
+use Rattle.std.proofs.Common.{rules, arith}
+use Rattle.replay.proofs.Listed.{one_counted, cut_counted, all_counted, from_bool_small}
 use Rattle.replay.proofs.replay.Goals as goal
 
-pub loop-at-init : goal.loop-at-init
-loop-at-init c = (search rules, search rules, search rules, none_counted _)
+pub returns-in_default : goal.returns-in_default
+returns-in_default c = (cut_counted c.loop-items.invariant.2 (search rules) c.in_default.ensures.item, omega arith, search rules)
 
-pub loop-at-preserved : goal.loop-at-preserved
-loop-at-preserved c = (
-  search rules,
-  search rules,
-  search rules,
-  one_counted c.loop-at-test.true c.item-found.ensures.1 c.item-found.ensures.0 c.loop-at.invariant.3,
-)
+pub loop-items-preserved : goal.loop-items-preserved
+loop-items-preserved c =
+    let small = from_bool_small c.in-Some.differs in (
+      search rules,
+      omega (arith, small, c.from-differ.ensures),
+      rw c.from-differ.ensures (one_counted c.loop-items.invariant.2 (search rules) (search rules) c.in-Some.ensures.item),
+    )
 
 pub returns : goal.returns
-returns c = (all_counted c.loop-at-test.false c.loop-at.invariant.3, search rules, search rules)
+returns c = (all_counted c.loop-items.invariant.2 (search rules), omega arith, search rules)

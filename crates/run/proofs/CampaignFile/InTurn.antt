@@ -9,30 +9,12 @@ use Rattle.run.specs.declared.campaign_file.PagePlace.{PagePlace}
 use Rattle.run.specs.declared.campaign_file.Parsed.{Parsed}
 use Rattle.run.proofs.CampaignFile.Number.{never, read_same, number_within}
 
--- ---- the code's answers
-
--- what an answer that is known says of the field that it stands for
-pub record Was {A X : Type 0} (field : X → Field A) {f : Field A} {x y : X} (e : f ≡ field x) (known : x ≡ y) : Type 0 where
-  pub is : f ≡ field y
-
-pub was : {A X : Type 0} (field : X → Field A) {f : Field A} {x y : X} (e : f ≡ field x) (known : x ≡ y) → Was field e known
-was field e known = record { is = e ∙ ap field known }
-
--- the refusal that is handed upward is the field's
-pub refusal_handed : {A X : Type 0} (field : X → Field A) (stop : X → Refusal) {f : Field A} {x y : X} {r : Refusal} → f ≡ field x → x ≡ y → r ≡ stop x
-    → field y ≡ refused (stop y) → f ≡ refused r
-refusal_handed field stop e is handed at = e ∙ ap field is ∙ at ∙ ap refused (sym (handed ∙ ap stop is))
-
 -- ---- numbers in turn, as the loop of `Cursor::numbers` reads them
 
 -- values that were read, in front of the others
 abbrev onto : List ℕ → Field (List ℕ) → Field (List ℕ)
 onto before (read values next) = read (before ++ values) next
 onto before (refused stop) = refused stop
-
-onto_none : (f : Field (List ℕ)) → f ≡ onto [] f
-onto_none (read values next) = refl
-onto_none (refused stop) = refl
 
 onto_more : (bytes before : List ℕ) (value : ℕ) (f : Field (List ℕ)) → onto before (and_then bytes f (λ values. given (value ∷ values))) ≡ onto (before ++ (value ∷ [])) f
 onto_more bytes before value (read values next) = ap (λ (l : List ℕ). read l next) (sym (append_assoc before (value ∷ []) values))
@@ -41,9 +23,6 @@ onto_more bytes before value (refused stop) = refl
 -- the first i values were read, up to this place
 pub record ReadSo (greatests bytes : List ℕ) (begin : ℕ) (values : List ℕ) (i at : ℕ) : Type 0 where
   pub so : numbers_of greatests bytes begin ≡ onto (take i values) (numbers_of (drop i greatests) bytes at)
-
-pub read_none : (greatests bytes : List ℕ) (begin : ℕ) (values : List ℕ) → ReadSo greatests bytes begin values 0 begin
-read_none greatests bytes begin values = record { so = onto_none (numbers_of greatests bytes begin) }
 
 module _ {greatests bytes : List ℕ} {begin : ℕ} {values : List ℕ} {i at : ℕ} (p : ReadSo greatests bytes begin values i at) where
   pub read_more : {value next : ℕ} → i < length greatests → i < length values → number_of (get_or greatests i 0) bytes at ≡ read value next

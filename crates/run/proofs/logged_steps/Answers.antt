@@ -1,10 +1,10 @@
 use Rattle.std.proofs.Common.{sym, ◌∙◌, arith, rules}
 use Rattle.run.proofs.Loop.{unmoved_same}
-use Rattle.run.proofs.LoggedSteps.{logging_start, logging_small, logging_done, logging_full, logging_steps, logging_states, logging_next, logging_stops}
+use Rattle.run.proofs.LoggedSteps.{logging_start, logging_done, logging_full, logging_steps, logging_states, logging_next, logging_stops}
 use Rattle.run.proofs.logged_steps.Goals as goal
 
 pub loop-all-init : goal.loop-all-init
-loop-all-init c = logging_start c.args.settings _ c.args.cpu _ c.requires.0
+loop-all-init c = logging_start c.args.settings _ c.args.cpu _
 
 pub returns-then-note_coming : goal.returns-then-note_coming
 returns-then-note_coming c =
@@ -12,12 +12,12 @@ returns-then-note_coming c =
     rw (seen.kept c.if-note_coming.true) (logging_full c.loop-all.invariant c.loop-all-test.true (sym seen.full_is ∙ c.if-note_coming.true))
 
 pub steps_of-step-requires : goal.steps_of-step-requires
-steps_of-step-requires c = (logging_small c.loop-all.invariant, omega arith)
+steps_of-step-requires c = omega arith
 
 pub total-all-requires : goal.total-all-requires
 total-all-requires c =
     let step = c.steps_of-step.ensures in
-    omega (arith, logging_steps c.loop-all.invariant step c.loop-all-test.true, logging_states c.loop-all.invariant step c.loop-all-test.true (search rules), c.requires.1)
+    omega (arith, logging_steps c.loop-all.invariant step c.loop-all-test.true, logging_states c.loop-all.invariant step c.loop-all-test.true (search rules), c.requires)
 
 pub returns-then-step-eq0 : goal.returns-then-step-eq0
 returns-then-step-eq0 c =

@@ -11,12 +11,12 @@ returns-in-Some c =
 pub steps_of-requires : goal.steps_of-requires
 steps_of-requires c =
     let a = accepted_by _ _ _ (sym c.not_accepted.ensures ∙ c.in_default.is) in
-    (omega (arith, a.timer), limit_most a)
+    limit_most a
 
 pub logged_steps-requires : goal.logged_steps-requires
 logged_steps-requires c =
     let a = accepted_by _ _ _ (sym c.not_accepted.ensures ∙ c.in_default.is) in
-    (omega (arith, a.timer), limit_most a)
+    limit_most a
 
 pub returns-in-None : goal.returns-in-None
 returns-in-None c =

@@ -1,12 +1,10 @@
-use Rattle.std.proofs.Common.{◌∙◌, arith}
-use Rattle.execution.specs.Opcodes.{rows, decoded}
-use Rattle.execution.proofs.Table.{first_rows, rows_after}
+use Rattle.execution.specs.Opcodes.{decoded}
 use Rattle.execution.proofs.opcodes.decode_first.Goals as goal
 
-pub returns-then-byte-lt128 : goal.returns-then-byte-lt128
+pub returns-in-8 : goal.returns-in-8
 unfolding decoded
-returns-then-byte-lt128 c = c.row_0.ensures ∙ first_rows rows 8 tt (omega arith) c.args.byte (omega arith) (omega arith)
+returns-in-8 c = rw (c.in-8.is, c.branches.ensures, c.listed.ensures, c.listed-in-8.ensures)
 
-pub returns-else-byte-lt128 : goal.returns-else-byte-lt128
+pub returns-in-9 : goal.returns-in-9
 unfolding decoded
-returns-else-byte-lt128 c = c.row_8.ensures ∙ rows_after rows 8 tt (omega arith) c.args.byte (omega arith) (omega arith)
+returns-in-9 c = rw (c.in-9.is, c.branches-in-9.ensures, c.listed-in-9.ensures)

@@ -1,12 +1,11 @@
 use Rattle.pages.proofs.Does.{does_then, does_done}
 use Rattle.execution.specs.Instructions.{memory_of}
-use Rattle.execution.proofs.Operands.{does_locate}
 use Rattle.execution.proofs.operations.memory.Goals as goal
 
 pub returns : goal.returns
 unfolding memory_of
 returns c =
-    does_then _ (does_locate _ _ c.word_at.ensures c.locate-l.ensures)
+    does_then _ c.locate-l.ensures
     (does_then _ c.cpu_readop-imm.ensures
     (does_then _ c.read_byte-b.ensures
     (does_then _ (rw c.changed-s.ensures at c.write_byte.ensures)

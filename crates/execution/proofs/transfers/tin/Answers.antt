@@ -5,6 +5,6 @@ use Rattle.execution.proofs.transfers.tin.Goals as goal
 pub returns : goal.returns
 unfolding tin_of
 returns c =
-    does_then _ c.read_byte-b.ensures
-    (does_then _ c.write_byte.ensures
+    does_then _ (rw c.from.ensures at c.read_byte-b.ensures)
+    (does_then _ (rw c.from-2.ensures at c.write_byte.ensures)
     (does_done (rw (c.with_y.ensures, c.with_x.ensures))))

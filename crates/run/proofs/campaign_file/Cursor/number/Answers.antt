@@ -1,98 +1,67 @@
-use Rattle.std.proofs.Common.{◌%◌, ◌∙◌, arith}
-use Rattle.run.proofs.CampaignFile.Groups.{passed_none, passed_more, passed_fits, nine_weigh, number_ends, number_last, number_tenth_one, number_tenth_not}
+use Rattle.std.proofs.Common.{◌≡◌, ◌<◌, length, get_or, ◌%◌, ◌∙◌, arith, rules, add-one, drop_of_length-le}
+use Rattle.run.specs.CampaignFile.{number_of}
+use Rattle.run.proofs.CampaignFile.Groups.{passed_more, passed_fits, number_ends, number_last, number_tenth_one, number_tenth_not}
 use Rattle.run.proofs.campaign_file.Cursor.number.Goals as goal
 
-pub loop-at-init : goal.loop-at-init
-loop-at-init c = passed_none c.args.bytes.now c.args.self.at
+pub returns-in_default-clause-field : goal.returns-in_default-clause-field
+unfolding number_of
+returns-in_default-clause-field c =
+    let past : length c.args.self.now.bytes.now < c.args.self.now.at = search (rules, c.in_default.ensures.lookup) in
+    rw (drop_of_length-le c.args.self.now.bytes.now {i = c.args.self.now.at} (omega arith))
 
-pub overflow_sub-at : goal.overflow_sub-at
-overflow_sub-at c = omega (arith, c.loop-at.invariant.at_is)
-
-pub returns-then-bytes-at : goal.returns-then-bytes-at
-returns-then-bytes-at c =
-    let a = c.args in
-    let l = c.loop-at in
-    number_ends a.bytes.now a.self.at l.at l.weight l.value l.invariant a.greatest c.if-bytes-at.true
-
-pub byte_number-group-requires : goal.byte_number-group-requires
-byte_number-group-requires c = tt
-
-pub checked-requires : goal.checked-requires
-checked-requires c = tt
-
-pub returns-then-group-lt128 : goal.returns-then-group-lt128
-returns-then-group-lt128 c =
-    let a = c.args in
-    let l = c.loop-at in
-    number_last a.bytes.now a.self.at l.at l.weight l.value l.invariant a.greatest c.if-bytes-at.false (omega arith)
-    ∙ rw c.byte_number-group.ensures.0 at c.checked.ensures
-
-pub loop-at-preserved : goal.loop-at-preserved
-loop-at-preserved c =
-    let a = c.args in
-    let l = c.loop-at in
-    rw c.byte_number-group.ensures.0
-    (passed_more a.bytes.now a.self.at l.at l.weight l.value l.invariant c.if-bytes-at.false
-    (omega (arith, l.invariant.at_is)) (omega arith))
-
-pub returns-then-bytes-at-2 : goal.returns-then-bytes-at-2
-returns-then-bytes-at-2 c =
-    let a = c.args in
-    let l = c.loop-at in
-    number_ends a.bytes.now a.self.at l.at l.weight l.value l.invariant a.greatest c.if-bytes-at-2.true
-
-pub overflow_add-value-then-bytes-at-eq1 : goal.overflow_add-value-then-bytes-at-eq1
-overflow_add-value-then-bytes-at-eq1 c =
-    let l = c.loop-at in
-    omega (arith, nine_weigh l.invariant.count l.weight l.invariant.weight_is l.invariant.few)
-
-pub checked-requires-then-bytes-at-eq1 : goal.checked-requires-then-bytes-at-eq1
-checked-requires-then-bytes-at-eq1 c = tt
-
-pub returns-then-bytes-at-eq1 : goal.returns-then-bytes-at-eq1
-returns-then-bytes-at-eq1 c =
-    let a = c.args in
-    let l = c.loop-at in
-    number_tenth_one a.bytes.now a.self.at l.at l.weight l.value l.invariant a.greatest (omega arith) c.if-bytes-at-2.false
-    c.if-bytes-at-eq1.true
-    ∙ c.checked-then-bytes-at-eq1.ensures
-
-pub returns-else-bytes-at-eq1 : goal.returns-else-bytes-at-eq1
-returns-else-bytes-at-eq1 c =
-    let a = c.args in
-    let l = c.loop-at in
-    number_tenth_not a.bytes.now a.self.at l.at l.weight l.value l.invariant a.greatest (omega arith) c.if-bytes-at-2.false
-    (omega arith) c.if-bytes-at-eq1.false
-
-pub bounds-bytes-at : goal.bounds-bytes-at
-bounds-bytes-at c = omega arith
-
-pub overflow_add-at : goal.overflow_add-at
-overflow_add-at c = omega arith
+pub returns-in_default-get-clause-field : goal.returns-in_default-get-clause-field
+returns-in_default-get-clause-field c =
+    let l = c.loop-count in
+    number_ends _ l.count l.weight l.value l.invariant.2 _ _ l.invariant.1 c.args.greatest (search (rules, c.in_default-get.ensures.lookup))
 
 pub overflow_mul-weight : goal.overflow_mul-weight
-overflow_mul-weight c = omega (arith, passed_fits _ _ _ _ _ c.loop-at.invariant (omega arith) c.byte_number-group.result (omega arith))
+overflow_mul-weight c = omega (arith, passed_fits _ _ _ _ c.loop-count.invariant.2 (omega arith) c.from-group.result (omega arith))
 
 pub overflow_add-value : goal.overflow_add-value
-overflow_add-value c = omega (arith, passed_fits _ _ _ _ _ c.loop-at.invariant (omega arith) c.byte_number-group.result (omega arith))
+overflow_add-value c = omega (arith, passed_fits _ _ _ _ c.loop-count.invariant.2 (omega arith) c.from-group.result (omega arith))
 
 pub overflow_mul-value : goal.overflow_mul-value
-overflow_mul-value c = omega (arith, passed_fits _ _ _ _ _ c.loop-at.invariant (omega arith) (c.byte_number-group.result % 128) (omega arith))
+overflow_mul-value c = omega (arith, passed_fits _ _ _ _ c.loop-count.invariant.2 (omega arith) (c.from-group.result % 128) (omega arith))
 
-pub overflow_add-value-in-loop-at : goal.overflow_add-value-in-loop-at
-overflow_add-value-in-loop-at c = omega (arith, passed_fits _ _ _ _ _ c.loop-at.invariant (omega arith) (c.byte_number-group.result % 128) (omega arith))
+pub overflow_add-value-in-loop-count : goal.overflow_add-value-in-loop-count
+overflow_add-value-in-loop-count c = omega (arith, passed_fits _ _ _ _ c.loop-count.invariant.2 (omega arith) (c.from-group.result % 128) (omega arith))
 
-pub overflow_mul-weight-in-loop-at : goal.overflow_mul-weight-in-loop-at
-overflow_mul-weight-in-loop-at c = omega (arith, passed_fits _ _ _ _ _ c.loop-at.invariant (omega arith) (128) (omega arith))
+pub overflow_mul-weight-in-loop-count : goal.overflow_mul-weight-in-loop-count
+overflow_mul-weight-in-loop-count c = omega (arith, passed_fits _ _ _ _ c.loop-count.invariant.2 (omega arith) (128) (omega arith))
 
-pub overflow_add-at-in-loop-at : goal.overflow_add-at-in-loop-at
-overflow_add-at-in-loop-at c = omega arith
+pub returns-then-group-lt128-clause-field : goal.returns-then-group-lt128-clause-field
+returns-then-group-lt128-clause-field c =
+    let l = c.loop-count in
+    let group : c.from-group.result ≡ get_or c.in-Some.rest.now l.count 0 = c.from-group.ensures ∙ c.in-Some-get.ensures.lookup.3.1 0 in
+    number_last _ l.count l.weight l.value l.invariant.2 _ _ l.invariant.1 c.args.greatest c.in-Some-get.ensures.lookup.3.0 (omega arith)
+    ∙ rw (group, l.invariant.0) at c.checked.ensures.field
 
-pub loop-at-smaller : goal.loop-at-smaller
-loop-at-smaller c = omega arith
+pub loop-count-preserved : goal.loop-count-preserved
+loop-count-preserved c =
+    let l = c.loop-count in
+    let group : c.from-group.result ≡ get_or c.in-Some.rest.now l.count 0 = c.from-group.ensures ∙ c.in-Some-get.ensures.lookup.3.1 0 in (
+      l.invariant.0,
+      l.invariant.1,
+      rw (group, add-one) (passed_more _ l.count l.weight l.value l.invariant.2 c.in-Some-get.ensures.lookup.3.0 c.loop-count-test.true (omega arith)),
+    )
 
-pub bounds-bytes-at-2 : goal.bounds-bytes-at-2
-bounds-bytes-at-2 c = omega arith
+pub returns-in_default-get-2-clause-field : goal.returns-in_default-get-2-clause-field
+returns-in_default-get-2-clause-field c =
+    let l = c.loop-count in
+    let nine : l.count ≡ 9 = omega arith in
+    number_ends _ l.count l.weight l.value l.invariant.2 _ _ l.invariant.1 c.args.greatest (rw nine (search (rules, c.in_default-get-2.ensures.lookup)))
 
-pub overflow_add-at-then-bytes-at-eq1 : goal.overflow_add-at-then-bytes-at-eq1
-overflow_add-at-then-bytes-at-eq1 c = omega arith
+pub returns-then-byte-eq1-clause-field : goal.returns-then-byte-eq1-clause-field
+returns-then-byte-eq1-clause-field c =
+    let l = c.loop-count in
+    let nine : l.count ≡ 9 = omega arith in
+    let byte : get_or c.in-Some.rest.now l.count 0 ≡ 1 = rw nine (search (rules, c.in-Some-get-2.ensures.lookup)) in
+    number_tenth_one _ l.count l.weight l.value l.invariant.2 _ _ l.invariant.1 c.args.greatest (omega arith) (rw nine c.in-Some-get-2.ensures.lookup.3.0) byte
+    ∙ rw l.invariant.0 at c.checked-then-byte-eq1.ensures.field
+
+pub returns-else-byte-eq1-clause-field : goal.returns-else-byte-eq1-clause-field
+returns-else-byte-eq1-clause-field c =
+    let l = c.loop-count in
+    let nine : l.count ≡ 9 = omega arith in
+    number_tenth_not _ l.count l.weight l.value l.invariant.2 _ _ l.invariant.1 c.args.greatest (omega arith) (rw nine c.in-Some-get-2.ensures.lookup.3.0) (omega arith)
+    (λ e. c.if-byte-eq1.false (search rules))

@@ -1,11 +1,8 @@
-use Rattle.std.proofs.Common.{◌≡◌, ◌-◌, ◌≤◌, length}
+use Rattle.std.proofs.Common.{◌≡◌, length}
 use Rattle.run.specs.CampaignFile.{greatest_values}
 use Rattle.run.proofs.CampaignFile.InTurn.{ReadSo}
 use Rattle.run.proofs.campaign_file.Cursor.numbers.Given as goal
 
 -- The values read so far stand in front of those that the definition reads from here on.
 abbrev pub invariant-loop-i : goal.invariant-loop-i
-invariant-loop-i l = (l.i ≤ 14) × (length l.values ≡ 14) × ReadSo greatest_values l.bytes l.fn.self.at l.values l.i l.c.at
-
-abbrev pub decreases-loop-i : goal.decreases-loop-i
-decreases-loop-i l = 14 - l.i
+invariant-loop-i l = (length l.values ≡ 14) × (l.self.bytes ≡ l.fn.self.bytes) × ReadSo greatest_values l.fn.self.bytes.now l.fn.self.at l.values l.i l.self.at

@@ -1,0 +1,12 @@
+use Rattle.std.proofs.Common.{◌≡◌, ℕ, ◌+◌, ◌-◌, ◌<◌, List, ◌++◌}
+use Rattle.pages.specs.Prog.{Access}
+use Rattle.pages.specs.Contract.{held}
+use Rattle.execution.specs.Code.Shapes.{bytes_from}
+use Rattle.bus.specs.Code.Notes.{Grows}
+use Rattle.bus.proofs.BusLog.bytes.Given as goal
+
+-- the bytes so far are noted, and before those that are left they make all
+abbrev pub invariant-loop : goal.invariant-loop
+invariant-loop l =
+    (done : List Access) × Grows done l.initial.self l.self
+    × (done ++ bytes_from (held l.memory) l.at (l.k - l.counter) ≡ bytes_from (held l.memory) l.from l.k)

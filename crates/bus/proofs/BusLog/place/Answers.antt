@@ -1,0 +1,17 @@
+use Rattle.pages.specs.Contract.{held}
+use Rattle.execution.proofs.AccessesAhead.{fixed_bytes, other_bytes}
+use Rattle.bus.proofs.Notes.{grows_then}
+use Rattle.bus.proofs.BusLog.place.Goals.{in-Fixed, in_default}
+use Rattle.bus.proofs.BusLog.place.Goals as goal
+
+pub returns : goal.returns
+returns c =
+    let there = rw c.locate-l.ensures.value at c.at.ensures in
+    elim c.match-place.branch [
+      | in-Fixed w ↦
+          rw (w.in-Fixed.is, fixed_bytes c.args.cpu w.in-Fixed.page (held c.args.memory.now))
+          (grows_then w.bytes.ensures (rw (w.place-is, w.self-is) at there))
+      | in_default w ↦
+          rw (other_bytes c.args.cpu c.args.place (held c.args.memory.now) w.in_default.not-Fixed)
+          (rw (w.place-is, w.self-is) at there)
+    ]

@@ -1,5 +1,0 @@
-use Rattle.std.proofs.Common.{arith}
-use Rattle.bus.proofs.note_test.Goals as goal
-
-pub returns : goal.returns
-returns c = (cc, omega arith)

@@ -1,4 +1,0 @@
-use Rattle.bus.proofs.note_write.Goals as goal
-
-pub returns : goal.returns
-returns c = c.note_entry.ensures

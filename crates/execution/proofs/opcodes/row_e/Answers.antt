@@ -1,7 +1,0 @@
-use Rattle.std.proofs.Common.{[], ◌∷◌, get_or, drop, refl, arith}
-use Rattle.execution.specs.Opcodes.{rows}
-use Rattle.execution.proofs.Table.{passed_over}
-use Rattle.execution.proofs.opcodes.row_e.Goals as goal
-
-pub returns-in_default : goal.returns-in_default
-returns-in_default c = passed_over (get_or rows 14 []) (drop 15 rows) 14 (15 ∷ 14 ∷ 13 ∷ 12 ∷ 11 ∷ 10 ∷ 9 ∷ 8 ∷ 6 ∷ 4 ∷ 3 ∷ 2 ∷ 1 ∷ 0 ∷ []) c.args.byte (omega arith) (omega arith) tt refl c.in_default.in_default-own.rest c.row_f.ensures

@@ -1,4 +1,0 @@
-use Rattle.execution.proofs.transfers.inc_a.Goals as goal
-
-pub returns : goal.returns
-returns c = rw (c.with_t.ensures, c.with_a.ensures, c.inc-s.ensures)

@@ -1,5 +1,0 @@
-use Rattle.run.proofs.line.+put_hex.Given as goal
-
--- each call has a smaller digits
-abbrev pub decreases-put_hex : goal.decreases-put_hex
-decreases-put_hex l = l.digits

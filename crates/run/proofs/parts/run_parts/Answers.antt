@@ -28,10 +28,6 @@ made {page0 = page0} {len0 = len0} {page1 = page1} {len1 = len1} {after0 = after
       logged = logged;
     }
 
-pub returns-in-None : goal.returns-in-None
-returns-in-None c =
-    rw c.in-None.is (made c.requires.0 c.requires.1 (search rules) (search rules) refl refl c.run.ensures.answers tt)
-
 pub returns-in-Some : goal.returns-in-Some
 returns-in-Some c =
     rw c.in-Some.is (made c.requires.0 c.requires.1 (search rules) (search rules) refl refl c.run-in-Some.ensures.answers c.run-in-Some.ensures.logged)

@@ -163,7 +163,7 @@ impl BusLog<'_> {
             self.bytes(memory, cpu.p, 2);
         }
         let l = places::locate(cpu, memory, place);
-        self.at(cpu, memory, action, l.addr, l.p);
+        self.at(cpu, memory, action, l.value, l.p);
     }
 
     // The vector's number in the code, and where the condition holds, the vector.

@@ -102,15 +102,6 @@ unfolding chained
 passed_over row rest i ks byte hi hb s f r e =
     e ∙ ap (λ (x : Option Listed). or_else x (chained rest (suc i) byte)) (default None row ks 16 (column i byte) f (counted i byte hi hb ks s r))
 
--- after the last row
-pub nothing : (i byte : ℕ) → None ≡ chained [] i byte
-unfolding chained
-nothing i byte = refl
-
--- a row that lists nothing may be left out: rows 7 and F after FD
+-- a row that lists nothing: rows 7 and F after FD
 pub blank : (k : ℕ) → get_or empty_row k None ≡ None
 blank k = sym (default None empty_row [] 16 k refl tt)
-
-pub skip : (rest : List (List (Option Listed))) (i byte : ℕ) → chained rest (suc i) byte ≡ chained (empty_row ∷ rest) i byte
-unfolding chained
-skip rest i byte = sym (ap (λ (d : Option Listed). or_else d (chained rest (suc i) byte)) (blank (column i byte)))

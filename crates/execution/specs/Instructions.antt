@@ -58,7 +58,7 @@ alu_of m o place = do
 unfoldable pub store_of : Lh5801 → Place → Prog Lh5801
 store_of m place = do
   l ← locate_of m place
-  _ ← write l.addr m.a
+  _ ← write l.value m.a
   done (with_p m l.p)
 
 -- STA: to a half, or to memory
@@ -79,15 +79,15 @@ unfoldable pub memory_of : Lh5801 → Change → Place → Prog Lh5801
 memory_of m o place = do
   l ← locate_of m place
   i ← readop_of l.p
-  b ← read l.addr
-  _ ← write l.addr (changed_of m.t o b i.value).value
+  b ← read l.value
+  _ ← write l.value (changed_of m.t o b i.value).value
   done (with_t (with_p m i.p) (changed_of m.t o b i.value).t)
 
 -- BII reads the memory byte before the immediate
 unfoldable pub bii_of : Lh5801 → Place → Prog Lh5801
 bii_of m place = do
   l ← locate_of m place
-  mem ← read l.addr
+  mem ← read l.value
   imm ← readop_of l.p
   done (bit_test_of (with_p m imm.p) mem imm.value)
 

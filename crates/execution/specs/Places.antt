@@ -13,7 +13,6 @@ use Rattle.execution.specs.declared.places.Page.{Page}
 use Rattle.execution.specs.declared.places.Page.TheVariants.{Me0, Me1}
 use Rattle.execution.specs.declared.places.Place.{Place}
 use Rattle.execution.specs.declared.places.Place.TheVariants.{InHalf, Pointer, Fixed, InCode}
-use Rattle.execution.specs.declared.places.Located.{Located}
 
 -- a register pair of the record, and the record with another word there
 abbrev pub word_in : Lh5801 → Register → ℕ
@@ -45,18 +44,15 @@ address_of w Me1 = me1_of w
 abbrev pub code_byte : ℕ → ℕ → Code ℕ
 code_byte b next = record { value = b; p = next }
 
-abbrev pub located : ℕ → ℕ → Located
-located at next = record { addr = at; p = next }
-
 -- the address of a place in memory, and P after it was found. A half and a byte in the code have none, and no entry of the opcode tables asks
 -- for it (`listed_places`, proofs/Listed.antt)
-unfoldable pub locate_of : Lh5801 → Place → Prog Located
-locate_of m (InHalf h) = done (located 0 m.p)
-locate_of m (Pointer page r) = done (located (address_of (word_in m r) page) m.p)
+unfoldable pub locate_of : Lh5801 → Place → Prog (Code ℕ)
+locate_of m (InHalf h) = done (code_byte 0 m.p)
+locate_of m (Pointer page r) = done (code_byte (address_of (word_in m r) page) m.p)
 locate_of m (Fixed page) = do
   w ← readop_word_of m.p
-  done (located (address_of w.value page) w.p)
-locate_of m InCode = done (located 0 m.p)
+  done (code_byte (address_of w.value page) w.p)
+locate_of m InCode = done (code_byte 0 m.p)
 
 -- the byte of a place, and P after it was read
 unfoldable pub operand_of : Lh5801 → Place → Prog (Code ℕ)

@@ -27,16 +27,11 @@ pub fn holds(t: u8, c: Condition) -> bool
 fn branched(cpu: Lh5801, p: u16, offset: u8, direction: Direction) -> Lh5801
     ensures { result ≡ branched_of cpu p offset direction }
 {
-    match direction {
-        Direction::Forward => {
-            let to = p.wrapping_add(u16::from(offset));
-            pages::add_state(cpu.with_p(to), 2)
-        }
-        Direction::Backward => {
-            let to = p.wrapping_sub(u16::from(offset));
-            pages::add_state(cpu.with_p(to), 3)
-        }
-    }
+    let (to, states) = match direction {
+        Direction::Forward => (p.wrapping_add(u16::from(offset)), 2),
+        Direction::Backward => (p.wrapping_sub(u16::from(offset)), 3),
+    };
+    pages::add_state(cpu.with_p(to), states)
 }
 
 pub fn branch(cpu: Lh5801, memory: &Memory, c: Condition, direction: Direction) -> Lh5801

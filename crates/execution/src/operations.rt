@@ -39,7 +39,7 @@ fn store(cpu: Lh5801, memory: &mut Memory, place: Place) -> Lh5801
     ensures { Changes (store_of cpu place) memory result }
 {
     let l = places::locate(cpu, memory, place);
-    memory.write_byte(l.addr, cpu.a);
+    memory.write_byte(l.value, cpu.a);
     cpu.with_p(l.p)
 }
 
@@ -77,9 +77,9 @@ pub fn memory(cpu: Lh5801, memory: &mut Memory, o: Change, place: Place) -> Lh58
 {
     let l = places::locate(cpu, memory, place);
     let imm = memory.cpu_readop(l.p);
-    let b = memory.read_byte(l.addr);
+    let b = memory.read_byte(l.value);
     let s = changed(cpu.t, o, b, imm.value);
-    memory.write_byte(l.addr, s.value);
+    memory.write_byte(l.value, s.value);
     cpu.with_p(imm.p).with_t(s.t)
 }
 
@@ -88,7 +88,7 @@ pub fn bii(cpu: Lh5801, memory: &Memory, place: Place) -> Lh5801
     ensures { Reads (bii_of cpu place) memory result }
 {
     let l = places::locate(cpu, memory, place);
-    let b = memory.read_byte(l.addr);
+    let b = memory.read_byte(l.value);
     let imm = memory.cpu_readop(l.p);
     arithmetic::bit(cpu.with_p(imm.p), b, imm.value)
 }

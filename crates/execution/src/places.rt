@@ -39,13 +39,6 @@ pub enum Place {
     InCode,
 }
 
-// An address, and P after it was found.
-#[derive(Clone, Copy)]
-pub struct Located {
-    pub addr: u32,
-    pub p: u16,
-}
-
 pub fn get_word(cpu: Lh5801, r: Register) -> u16
     ensures { result ≡ word_in cpu r }
 {
@@ -95,25 +88,25 @@ pub fn paged(addr: u16, page: Page) -> u32
     }
 }
 
-// The address of a place in memory; a half and a byte in the code have none, and no instruction
+// The address of a place in memory, and P after it was found; a half and a byte in the code have none, and no instruction
 // asks for it.
 #[tactic(auto, using(pages::proofs::Does::does_done, pages::proofs::Does::does_then), unfolding(crate::specs::Places::locate_of))]
-pub fn locate(cpu: Lh5801, memory: &Memory, place: Place) -> Located
+pub fn locate(cpu: Lh5801, memory: &Memory, place: Place) -> Code<u32>
     ensures { Reads (locate_of cpu place) memory result }
 {
     match place {
-        Place::Pointer(page, r) => Located {
-            addr: paged(get_word(cpu, r), page),
+        Place::Pointer(page, r) => Code {
+            value: paged(get_word(cpu, r), page),
             p: cpu.p,
         },
         Place::Fixed(page) => {
             let w = memory.readop_word(cpu.p);
-            Located {
-                addr: paged(w.value, page),
+            Code {
+                value: paged(w.value, page),
                 p: w.p,
             }
         }
-        Place::InHalf(_) | Place::InCode => Located { addr: 0, p: cpu.p },
+        Place::InHalf(_) | Place::InCode => Code { value: 0, p: cpu.p },
     }
 }
 

@@ -14,7 +14,6 @@ use Rattle.execution.specs.declared.places.Register.TheVariants.{X}
 use Rattle.execution.specs.declared.places.Page.TheVariants.{Me0}
 use Rattle.execution.specs.declared.places.Place.{Place}
 use Rattle.execution.specs.declared.places.Place.TheVariants.{InHalf, Pointer, Fixed, InCode}
-use Rattle.execution.specs.declared.places.Located.{Located}
 use Rattle.execution.specs.declared.instructions.Condition.{Condition}
 use Rattle.execution.specs.declared.instructions.Instruction.{Instruction}
 use Rattle.execution.specs.declared.instructions.Instruction.TheVariants.{Alu, Sta, Memory, Bii, Drr, Drl, Load, Compare, Inc, Dec, IncWord, DecWord, Sin, Sde, Lin, Lde, Branch, Lop, VectorIf, Vector, Jmp, Sjp, Rtn, Rti, LoadS, Tin, Cin, OnA, Sets, PopWord, PushWord, PopA, PushA, ToX, FromX, DropWord, Adr, Off, Hlt, Cdv, Nop}
@@ -76,12 +75,12 @@ accesses_at m pages RotateRight a p = read_of a (at pages a) ∷ write_of a (drr
 accesses_at m pages RotateLeft a p = read_of a (at pages a) ∷ write_of a (drl_moved m.a (at pages a)).byte ∷ []
 
 -- at a place in memory: its word in the code is read first, where it has one
-abbrev pub located_at : Lh5801 → Pages → Place → Located
+abbrev pub located_at : Lh5801 → Pages → Place → Code ℕ
 located_at m pages place = (exec (locate_of m place) pages).answer
 
 abbrev pub place_accesses : Lh5801 → Pages → Action → Place → List Access
 place_accesses m pages o place =
-    (exec (locate_of m place) pages).accesses ++ accesses_at m pages o (located_at m pages place).addr (located_at m pages place).p
+    (exec (locate_of m place) pages).accesses ++ accesses_at m pages o (located_at m pages place).value (located_at m pages place).p
 
 -- the vector's number in the code, and where the condition holds, the vector
 abbrev pub vector_if_accesses : Lh5801 → Pages → Condition → List Access

@@ -17,7 +17,7 @@ use execution::shapes::{Action, Shape};
 use execution::{Opcode, flow, places};
 use pages::Memory;
 
-pub mod tables;
+mod tables;
 
 // Document 02's bus log: a lent list of entries, and how many of them are used.
 #[derive(Drop)]
@@ -28,7 +28,7 @@ pub struct BusLog<'a> {
 
 // What an entry is of.
 #[derive(Clone, Copy)]
-pub enum Kind {
+enum Kind {
     Read,
     Write,
 }

@@ -5,12 +5,16 @@ use mathlib.Core.List.{List, [], ◌∷◌}
 use native.Mathlib.Omega.{arith}
 use Rattle.std.proofs.Math.Nat.{min-le_right, min-eq_left}
 use lib.ListN.{get_or, take}
+use Rattle.pages.specs.Pages.{Pages}
 use Rattle.run.specs.declared.Answer.{Answer}
 use Rattle.run.specs.Acceptance.{end_number, end_byte}
+use Rattle.run.specs.BusLog.{Log, appended_if}
+use Rattle.run.specs.Run.{CallResult}
+use Rattle.run.specs.Answers.{Answers}
 use Rattle.run.specs.RecordNumbers.{record_numbers, record_of, AllWithin, widths}
 use Rattle.run.proofs.Numbers.{number_most}
 use Rattle.run.proofs.RecordNumbers.{within_append, record_back}
-use Rattle.lh5801.specs.Words.{taken_of, cpu_of, words_of, word_widths}
+use Rattle.lh5801.specs.Words.{taken_of, cpu_of, words_of, word_widths, Left}
 
 pub taken_within : (words : List ℕ) → AllWithin (take 8 widths) (taken_of words)
 unfolding taken_of
@@ -38,3 +42,17 @@ taken_back r h =
 -- the words that came back are taken as the record that they are of
 pub continues : (r : Answer) → AllWithin word_widths (words_of r) → cpu_of (words_of r) ≡ r.cpu
 continues r h = ap record_of (taken_back r h) ∙ record_back r.cpu
+
+-- what the entry leaves, from what the run call answers
+pub left : {o : CallResult} {lent : Bool} {before after : Log} {words : List ℕ} {r : Answer} {q : Pages} → Answers o r q
+    → after ≡ appended_if lent before o.bus
+    → (words ≡ words_of r) × AllWithin word_widths (words_of r)
+    → Left o lent before after words q
+left {r = r} a l w =
+    record {
+      words_are = w.0 ∙ ap words_of a.answer;
+      within = rw w.0 w.1;
+      continues = rw w.0 (continues r w.1) ∙ ap (λ (r : Answer). r.cpu) a.answer;
+      pages = a.pages;
+      log = l;
+    }

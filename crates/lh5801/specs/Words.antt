@@ -2,10 +2,9 @@
 use Rattle.std.specs.Prelude.{ℕ, ◌-◌, ◌%◌, ◌^◌, Bool, min, List, [], ◌∷◌, ◌++◌, ◌≡◌, get_or}
 use Rattle.arithmetic.specs.declared.record.Lh5801.{Lh5801}
 use Rattle.pages.specs.Pages.{Pages}
-use Rattle.run.specs.declared.Log.{Log}
 use Rattle.run.specs.declared.Answer.{Answer}
 use Rattle.run.specs.Acceptance.{end_number, end_byte}
-use Rattle.run.specs.BusLog.{appended, used_after}
+use Rattle.run.specs.BusLog.{Log, appended_if}
 use Rattle.run.specs.Run.{CallResult}
 use Rattle.run.specs.RecordNumbers.{record_numbers, record_of, AllWithin, widths}
 
@@ -29,16 +28,11 @@ words_of r = record_numbers r.cpu ++ (end_number r.end ∷ end_byte r.end ∷ r.
 abbrev pub word_widths : List ℕ
 word_widths = widths ++ (11 ∷ 255 ∷ (2 ^ 32 - 1) ∷ (2 ^ 64 - 1) ∷ [])
 
--- the list is lent as a log, and so many of its entries are used; or it is not
-abbrev pub log_with : Bool → ℕ → Log
-log_with lent used = record { lent = lent; used = used }
-
--- what the entry leaves: the words, the pages and the log of the definition's call. A call that is passed these words starts from the record that this
--- one ended with
-pub record Left (o : CallResult) (log : Log) (before now : List ℕ) (used : ℕ) (words : List ℕ) (after : Pages) : Type 0 where
+-- what the entry leaves: the words, the pages and the log of the definition's call; a list and a count that are not lent as a log stay as they are. A
+-- call that is passed these words starts from the record that this one ended with
+pub record Left (o : CallResult) (lent : Bool) (before after : Log) (words : List ℕ) (left : Pages) : Type 0 where
   pub words_are : words ≡ words_of o.answer
   pub within : AllWithin word_widths words
   pub continues : cpu_of words ≡ o.answer.cpu
-  pub pages : after ≡ o.pages
-  pub entries_are : now ≡ appended log before o.bus
-  pub used_are : used ≡ used_after log o.bus
+  pub pages : left ≡ o.pages
+  pub log : after ≡ appended_if lent before o.bus

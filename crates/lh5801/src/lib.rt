@@ -2,15 +2,15 @@
 #![tactic(auto)]
 
 ghost use Rattle.std.specs.Prelude.{◌≡◌};
-ghost use Rattle.pages.specs.Contract.{at_entry, at_exit};
+ghost use Rattle.pages.specs.Pages.{pages};
 ghost use Rattle.execution.specs.Inputs.{inputs_of};
 ghost use Rattle.run.specs.RecordNumbers.{AllWithin};
-ghost use Rattle.run.specs.BusLog.{free_in};
+ghost use Rattle.run.specs.BusLog.{log_of, free_in, lent_if};
 ghost use Rattle.run.specs.Run.{call_of, settings};
-ghost use Rattle.lh5801.specs.Words.{taken_of, cpu_of, words_of, word_widths, log_with, Left};
+ghost use Rattle.lh5801.specs.Words.{taken_of, cpu_of, words_of, word_widths, Left};
 
-use execution::Inputs;
 use bus::BusLog;
+use execution::Inputs;
 use run::{Answer, Settings, record_numbers};
 
 // Words 0 to 11, each taken at its field's width; of the timer, 65,535 where it is more.
@@ -39,6 +39,8 @@ fn words_of(r: Answer) -> [u64; 16]
     ensures { (result ≡ words_of r) × AllWithin word_widths (words_of r) }
 {
     let numbers = record_numbers::from_record(r.cpu);
+    let number = u64::from(r.end.number());
+    let byte = u64::from(r.end.byte());
     [
         numbers[0],
         numbers[1],
@@ -52,8 +54,8 @@ fn words_of(r: Answer) -> [u64; 16]
         numbers[9],
         numbers[10],
         numbers[11],
-        u64::from(r.end.number()),
-        u64::from(r.end.byte()),
+        number,
+        byte,
         u64::from(r.steps),
         r.states,
     ]
@@ -73,7 +75,7 @@ pub extern "C" fn lh5801_call(
     log: &mut [u32],
     log_used: usize,
 ) -> usize
-    ensures { Left (call_of (settings (inputs_of keyboard idle) limit) (free_in (log_with logged log_used) log.old) (cpu_of words.old) (at_entry page0 page1)) (log_with logged log_used) log.old log.new result words.new (at_exit page0 page1) }
+    ensures { Left (call_of (settings (inputs_of keyboard idle) limit) (free_in (lent_if logged (log_of log.old log_used))) (cpu_of words.old) (pages page0.old page1.old)) logged (log_of log.old log_used) (log_of log.new result) words.new (pages page0.new page1.new) }
 {
     let numbers = taken(words);
     let cpu = record_numbers::record_of(&numbers);
@@ -81,15 +83,15 @@ pub extern "C" fn lh5801_call(
         inputs: Inputs { keyboard, idle },
         limit,
     };
-    let mut log = BusLog {
+    let mut lent = BusLog {
         entries: log,
         used: log_used,
     };
     let answer = if logged {
-        run::run(cpu, page0, page1, Some(&mut log), settings)
+        run::run(cpu, page0, page1, Some(&mut lent), settings)
     } else {
         run::run(cpu, page0, page1, None, settings)
     };
     *words = words_of(answer);
-    log.used
+    lent.used
 }

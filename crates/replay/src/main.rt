@@ -154,7 +154,7 @@ fn set(page: &mut [u8], is_here: bool, offset: usize, byte: u8)
 }
 
 // The bytes that are set after the fill rule in one page: in groups of four the offset in two bytes, the page, and the byte.
-#[tactic(auto, using(crate::proofs::Stores::short), unfolding(crate::specs::Bytes::patch_of))]
+#[tactic(auto, using(crate::proofs::Stores::short, crate::proofs::Stores::one_patched, crate::proofs::Stores::rest_left), unfolding(crate::specs::Bytes::patch_of))]
 fn patch(page: &mut [u8], which: u8, sets: &[u8])
     ensures { page.new ≡ patch_of page.old which sets.now }
 {
@@ -219,6 +219,7 @@ fn run_pages(
 }
 
 // The sums over what a call leaves: the starts of both pages, all entries of the list, and the used count.
+#[tactic(auto, unfolding(crate::specs::Numbers::sums_after_of))]
 fn sums_after(page0: &[u8], page1: &[u8], entries: &[u32], used: usize) -> Sums
     ensures { result ≡ sums_after_of page0.now page1.now entries.now used }
 {

@@ -10,7 +10,7 @@ use Rattle.bus.specs.Log.{entry_of}
 use Rattle.bus.proofs.Notes.{noted_fits}
 use Rattle.run.specs.declared.Settings.{Settings}
 use Rattle.run.specs.Acceptance.{Accepted}
-use Rattle.run.specs.BusLog.{Log, free_of, free_in, free_after, appended, lent_if, appended_if, Full}
+use Rattle.run.specs.BusLog.{Log, free_in, free_after, appended, lent_if, appended_if, Full}
 use Rattle.run.specs.Run.{CallResult, no_step, completed, one_step, run_of, call_of, settings}
 use Rattle.run.specs.Demand.{sum, AtLeastOne}
 use Rattle.run.specs.CutLog.{left_after, log_after, log_after_all, CutLog}

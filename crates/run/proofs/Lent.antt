@@ -1,6 +1,6 @@
 -- A call that may be lent a log: it is not accepted, or its steps are done, with the log or without one.
-use Rattle.std.proofs.Common.{◌≡◌, ◌⊎◌, sym, refl, ◌∙◌, inl, inr}
-use Rattle.std.specs.Prelude.{Option, None, Some}
+use Rattle.std.proofs.Common.{◌≡◌, ◌⊎◌, refl, ◌∙◌, inl, inr}
+use Rattle.std.specs.Prelude.{None, Some}
 use Rattle.std.specs.Borrow.{MutBor}
 use Rattle.arithmetic.specs.declared.record.Lh5801.{Lh5801}
 use Rattle.pages.specs.declared.Memory.{Memory}
@@ -13,7 +13,7 @@ use Rattle.run.specs.declared.Settings.{Settings}
 use Rattle.run.specs.Acceptance.{not_accepted}
 use Rattle.run.specs.BusLog.{held_log, free_of, free_in}
 use Rattle.run.specs.Run.{no_step, run_of, call_of}
-use Rattle.run.specs.Answers.{Answers, LentLog, lent_free, CallAnswers}
+use Rattle.run.specs.Answers.{LentLog, lent_free, CallAnswers}
 use Rattle.run.specs.Code.States.{answer_of, AnswersIn, LoggedIn}
 use Rattle.run.proofs.BusLog.{logged_none}
 use Rattle.run.proofs.Acceptance.{call_run, call_end, accepted_by}

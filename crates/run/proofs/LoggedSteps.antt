@@ -1,6 +1,6 @@
 -- The steps of a call with a log: before each the log is looked at and its accesses are appended, and then it is done alone, as without a log.
 use Rattle.std.proofs.Common.{◌≡◌, ℕ, ◌+◌, ◌*◌, ◌<◌, ◌≤◌, List, [], ◌++◌, sym, refl, ap, ◌∙◌, append-nil, arith, subst}
-use Rattle.std.specs.Prelude.{Option, None, Some}
+use Rattle.std.specs.Prelude.{None, Some}
 use Rattle.arithmetic.specs.declared.record.Lh5801.{Lh5801}
 use Rattle.execution.specs.declared.Inputs.{Inputs}
 use Rattle.execution.specs.Step.{StepEnd, did, stopped}
@@ -18,11 +18,11 @@ use Rattle.run.specs.declared.Settings.{Settings}
 use Rattle.run.specs.BusLog.{held_log, free_of, free_after, Full, NotFull}
 use Rattle.run.specs.Run.{CallResult, call_result, no_step, completed, one_step, run_of}
 use Rattle.run.specs.Reaches.{Reaches, start}
-use Rattle.run.specs.Answers.{Answers, Logged}
+use Rattle.run.specs.Answers.{Logged}
 use Rattle.run.specs.Code.States.{answer_of, AnswersIn, LoggedIn}
 use Rattle.run.proofs.BusLog.{appended_free, logged_none, logged_then}
 use Rattle.run.proofs.Steps.{run_did, run_stop}
-use Rattle.run.proofs.Ends.{Ended, all, none_free, early, run_ended, run_reaches, reaches_run, reaches_full, reaches_stop, reaches_all, reaches_none, reaches_logged, reaches_small, reaches_most}
+use Rattle.run.proofs.Ends.{Ended, all, none_free, early, run_ended, run_reaches, reaches_run, reaches_full, reaches_stop, reaches_all, reaches_none, reaches_logged, reaches_most}
 
 -- the accesses of one step that is done alone
 one_step_bus : (inputs : Inputs) (m : Lh5801) (p : Pages) → (run_of 1 inputs None m p).bus ≡ completed_accesses (one_step inputs m p)

@@ -1,6 +1,6 @@
 -- What the loop of a call without a log keeps, and how a step, a stop and the limit go on from it.
-use Rattle.std.proofs.Common.{◌≡◌, ℕ, ◌+◌, ◌%◌, ◌^◌, ◌<◌, ◌≤◌, true, List, [], ◌++◌, sym, refl, ap, ◌∙◌, subst, arith}
-use Rattle.std.specs.Prelude.{Option, None, Some, Result, Ok, Err}
+use Rattle.std.proofs.Common.{◌≡◌, ℕ, ◌+◌, ◌<◌, ◌≤◌, true, List, [], ◌++◌, sym, refl, ap, ◌∙◌, subst, arith}
+use Rattle.std.specs.Prelude.{None, Some, Result, Ok, Err}
 use Rattle.arithmetic.specs.declared.record.Lh5801.{Lh5801}
 use Rattle.execution.specs.declared.Inputs.{Inputs}
 use Rattle.arithmetic.proofs.Status.{requested_same}
@@ -221,8 +221,8 @@ module _ {s : Settings} {done : ℕ} {first : Lh5801} {l : Memory} {steps : ℕ}
         let t : Outcome s.inputs k (held n) (Err x) (held o) = outcome s.inputs k d in
         let z : step_of k s.inputs ≡ step_of m s.inputs = ap (λ (x : Lh5801). step_of x s.inputs) r.0 ∙ same_step s.inputs m due moved in
         let i : Outcome s.inputs m (held l) (Err x) (held o) =
-            subst (λ (p : Pages). Outcome s.inputs m p (Err x) (held o)) r.1
-            (record { value = t.value ∙ ap (λ y. outcome_of (exec y (held n)).answer) z; pages = ap (λ y. (exec y (held n)).pages) (sym z) ∙ t.pages }) in
+        subst (λ (p : Pages). Outcome s.inputs m p (Err x) (held o)) r.1
+        (record { value = t.value ∙ ap (λ y. outcome_of (exec y (held n)).answer) z; pages = ap (λ y. (exec y (held n)).pages) (sym z) ∙ t.pages }) in
         record {
           leads = rw (u ∙ ap (λ y. unmoved_of y m) (r.0 ∙ moved) ∙ moved_back m, e) (stop_leads (omega (arith, g.room)) i);
           lent = lent_then g.kept.lent d.lent;

@@ -104,6 +104,7 @@ pub struct Led {
 }
 
 // The record before timer reached moved to IR1.
+#[tactic(auto, unfolding(crate::specs::Code::Leads::unmoved_of))]
 fn unmoved(moved: Lh5801, before: Lh5801) -> Lh5801
     ensures { result ≡ unmoved_of moved before }
 {
@@ -159,6 +160,7 @@ fn instructions(cpu: Lh5801, memory: &mut Memory, settings: Settings, done: u32)
 }
 
 // One step in which no instruction is due; so many were completed before.
+#[tactic(auto, using(crate::proofs::Loop::one_did, crate::proofs::Loop::one_stops))]
 fn other_step(cpu: Lh5801, memory: &mut Memory, settings: Settings, done: u32) -> Led
     requires { (due_of cpu ≡ false) × (done < settings.limit) }
     ensures { LeadsIn settings done cpu memory.entry.now result memory.exit.now }

@@ -21,7 +21,7 @@ impl From<Asked> for Settings {
 }
 
 // A file that was read: its run call, without a log.
-#[tactic(auto, using(crate::proofs::Stored::copied))]
+#[tactic(auto, using(crate::proofs::Stored::copied), unfolding(crate::specs::BusLog::free_in))]
 fn file_answer(bytes: &[u8], c: Parsed) -> Answer
     requires page0_len_in_bounds { (c.page0.at + c.page0.len ≤ length bytes.now) × (c.page0.len ≤ 16384) }
     requires page1_len_in_bounds { (c.page1.at + c.page1.len ≤ length bytes.now) × (c.page1.len ≤ 16384) }

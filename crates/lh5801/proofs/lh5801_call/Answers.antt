@@ -1,7 +1,8 @@
-use mathlib.Core.Path.{ap, ◌∙◌}
-use native.Mathlib.Omega.{arith}
-use Rattle.lh5801.specs.Words.{taken_of, words_of}
-use Rattle.lh5801.proofs.Words.{taken_within, continues}
+use Rattle.std.proofs.Common.{ap, ◌∙◌, arith, rules}
+use Rattle.run.specs.BusLog.{log_of, held_log}
+use Rattle.lh5801.specs.Words.{taken_of}
+use Rattle.lh5801.proofs.Words.{taken_within, left}
+use Rattle.lh5801.proofs.lh5801_call.Goals.{then-logged, else-logged}
 use Rattle.lh5801.proofs.lh5801_call.Goals as goal
 
 -- `lh5801::lh5801_call` meets its contract: the run call of the record that the words give, and its answer's words.
@@ -11,13 +12,17 @@ record_of-cpu-requires c = rw c.taken-numbers.ensures (omega arith, taken_within
 
 pub returns : goal.returns
 returns c =
-    let a = rw (c.record_of-cpu.ensures, c.taken-numbers.ensures) at c.run-r.ensures in
-    let w = c.words_of.ensures in
-    record {
-      words_are = w.0 ∙ ap words_of a.answers.answer;
-      within = rw w.0 w.1;
-      continues = rw w.0 (continues c.run-r.result.answer w.1) ∙ ap (λ r. r.cpu) a.answers.answer;
-      pages = a.answers.pages;
-      entries_are = a.entries_are;
-      used_are = a.used_are;
-    }
+    elim c.if-logged.branch [
+      | then-logged w ↦
+          let a = rw (c.record_of-cpu.ensures, c.taken-numbers.ensures) at w.run-answer.ensures in
+          rw (w.if-logged.true, w.page0-is, w.page1-is)
+          (left a.answers
+          (ap (λ l. log_of l c.if-logged.lent.used) (search rules) ∙ ap held_log w.lent-is ∙ a.logged.log)
+          (rw w.answer-is at c.words_of.ensures))
+      | else-logged w ↦
+          let a = rw (c.record_of-cpu.ensures, c.taken-numbers.ensures) at w.run-answer-else-logged.ensures in
+          rw (w.if-logged.false, w.page0-is, w.page1-is)
+          (left a.answers
+          (ap (λ l. log_of l c.if-logged.lent.used) (search rules) ∙ ap held_log w.lent-is)
+          (rw w.answer-is at c.words_of.ensures))
+    ]

@@ -42,16 +42,9 @@ pub record Passed (rest : List ℕ) (count weight value : ℕ) : Type 0 where
   pub below : value < weight
   pub groups_are : groups 10 rest ≡ after value weight count (groups (10 - count) (drop count rest))
 
-pub passed_none : (rest : List ℕ) → Passed rest 0 1 0
-passed_none rest =
-    record { few = omega arith; weight_is = refl; below = omega arith; groups_are = after_none (groups 10 rest) }
-
--- nine groups weigh at most 2 ^ 63, and eight 2 ^ 56
+-- eight groups weigh at most 2 ^ 56
 weight_small : (count weight : ℕ) → weight ≡ 128 ^ count → count < 9 → weight ≤ 2 ^ 56
 weight_small count weight e h = rw e (pow-le-pow_right {n = 128} (lit< tt) {i = count} {j = 8} (omega arith))
-
-pub nine_weigh : (count weight : ℕ) → weight ≡ 128 ^ count → count ≤ 9 → weight ≤ 2 ^ 63
-nine_weigh count weight e h = rw e (pow-le-pow_right {n = 128} (lit< tt) {i = count} {j = 9} h)
 
 pub one_less : (k : ℕ) → k ≤ 9 → 10 - k ≡ suc (9 - k)
 one_less k h = omega arith

@@ -1,5 +1,4 @@
-use Rattle.std.proofs.Common.{◌≡◌, ℕ, sym, refl, ◌∙◌, arith, ltb-false}
-use Rattle.run.specs.BusLog.{held_log, free_of}
+use Rattle.std.proofs.Common.{◌≡◌, ℕ, sym, ◌∙◌, arith}
 use Rattle.run.proofs.BusLog.{logged_by}
 use Rattle.run.proofs.note_coming.Goals as goal
 

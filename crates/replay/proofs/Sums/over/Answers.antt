@@ -1,4 +1,4 @@
-use Rattle.std.proofs.Common.{◌∷◌, ◌++◌, [], refl, add-one, take-suc, take_all}
+use Rattle.std.proofs.Common.{◌∷◌, ◌++◌, [], refl, add-one, take-suc}
 use Rattle.replay.specs.Numbers.{sums_of}
 use Rattle.replay.proofs.Summed.{last_number, zip_more}
 use Rattle.replay.proofs.Sums.over.Goals as goal
@@ -15,6 +15,3 @@ loop-number-preserved g c =
           (zip_more g.T.Into.converts _ before.0 before.1 c.into.ensures),
       rw (c.with_number-sums.ensures, last_number, ← before.2),
     )
-
-pub returns : goal.returns
-returns g c = rw (take_all c.loop-number.number-index c.args.numbers.now c.loop-number-test.false) at c.loop-number.invariant

@@ -1,4 +1,4 @@
-use Rattle.std.proofs.Common.{◌≡◌, ℕ, ◌≤◌, List, ◌++◌, length, drop, sym, refl, ap, ◌∙◌, ⊎_elim, length-take-le, rules}
+use Rattle.std.proofs.Common.{◌≡◌, ℕ, ◌≤◌, List, ◌++◌, length, drop, refl, ap, ◌∙◌, rules}
 use Rattle.arithmetic.specs.declared.record.Lh5801.{Lh5801}
 use Rattle.run.specs.declared.Settings.{Settings}
 use Rattle.run.specs.declared.Answer.{Answer}
@@ -27,10 +27,6 @@ made {page0 = page0} {len0 = len0} {page1 = page1} {len1 = len1} {after0 = after
       rest1_kept = rest_is after1 start1 page1 len1 e1 h1 s1;
       logged = logged;
     }
-
-pub returns-in-None : goal.returns-in-None
-returns-in-None c =
-    rw c.in-None.is (made c.requires.0 c.requires.1 (search rules) (search rules) refl refl c.run.ensures.answers tt)
 
 pub returns-in-Some : goal.returns-in-Some
 returns-in-Some c =

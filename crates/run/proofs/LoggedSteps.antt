@@ -22,7 +22,7 @@ use Rattle.run.specs.Answers.{Logged}
 use Rattle.run.specs.Code.States.{answer_of, AnswersIn, LoggedIn}
 use Rattle.run.proofs.BusLog.{appended_free, logged_none, logged_then}
 use Rattle.run.proofs.Steps.{run_did, run_stop}
-use Rattle.run.proofs.Ends.{Ended, all, none_free, early, run_ended, run_reaches, reaches_run, reaches_full, reaches_stop, reaches_all, reaches_none, reaches_logged, reaches_small, reaches_most}
+use Rattle.run.proofs.Ends.{Ended, all, none_free, early, run_ended, run_reaches, reaches_run, reaches_full, reaches_stop, reaches_all, reaches_none, reaches_logged, reaches_most}
 
 -- the accesses of one step that is done alone
 one_step_bus : (inputs : Inputs) (m : Lh5801) (p : Pages) → (run_of 1 inputs None m p).bus ≡ completed_accesses (one_step inputs m p)

@@ -1,4 +1,4 @@
-use Rattle.std.proofs.Common.{sym, ◌∙◌, ⊎_elim, arith, rules}
+use Rattle.std.proofs.Common.{sym, ◌∙◌, ⊎_elim, rules}
 use Rattle.run.proofs.Acceptance.{accepted_by, limit_most}
 use Rattle.run.proofs.Lent.{lent_case, refused_none, refused_some, accepted_none, accepted_some}
 use Rattle.run.proofs.run.Goals as goal

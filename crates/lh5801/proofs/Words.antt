@@ -1,6 +1,7 @@
 -- Laws of the sixteen words: what is taken fits the record, and what comes back is taken as it is.
 use Prim.Native.Nat.{ℕ, ◌-◌, ◌%◌, ◌^◌, ◌≤◌}
 use mathlib.Core.Path.{◌≡◌, refl, ap, ◌∙◌}
+use mathlib.Core.Bool.{Bool}
 use mathlib.Core.List.{List, [], ◌∷◌}
 use native.Mathlib.Omega.{arith}
 use Rattle.std.proofs.Math.Nat.{min-le_right, min-eq_left}

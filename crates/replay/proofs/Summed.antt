@@ -1,5 +1,5 @@
 -- The sums over the first numbers of a list.
-use Rattle.std.proofs.Common.{ap, ap₂, ◌∙◌, ◌≡◌, ℕ, List, [], ◌∷◌, ◌++◌, refl}
+use Rattle.std.proofs.Common.{◌≡◌, ℕ, List, [], ◌∷◌, ◌++◌, refl}
 use Rattle.std.specs.List.{AllZip}
 use Rattle.replay.specs.declared.Sums.{Sums}
 use Rattle.replay.specs.Numbers.{with_number, sums_of}

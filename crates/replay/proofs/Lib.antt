@@ -2,3 +2,4 @@ pub mod Numbers
 pub mod Summed
 pub mod Stores
 pub mod Listed
+pub mod Called

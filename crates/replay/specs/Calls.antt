@@ -1,12 +1,12 @@
 -- One call of the list, an item of the list, and the whole list.
-use Rattle.std.specs.Prelude.{◌≡◌, ℕ, zero, suc, ◌+◌, ◌*◌, ◌≤◌, Bool, true, false, cond, not, ◌||◌, List, length, take, drop, replicate, ◌==◌, nat_lt, slice_index, Option, None, Some}
+use Rattle.std.specs.Prelude.{◌≡◌, ℕ, zero, suc, ◌+◌, ◌*◌, ◌≤◌, Bool, true, cond, not, ◌||◌, List, length, take, drop, replicate, ◌==◌, nat_lt, slice_index, Option, None, Some}
 use Rattle.std.specs.Int.{from_bool}
-use Rattle.run.specs.declared.Log.{Log}
+use Rattle.pages.specs.Prog.{Access}
 use Rattle.run.specs.declared.campaign_file.Parsed.{Parsed}
 use Rattle.run.specs.declared.campaign_file.Refusal.{Refusal}
 use Rattle.run.specs.CampaignFile.{Field, read, refused, campaign_of, refusal_number, refusal_offset}
 use Rattle.run.specs.Line.{refusal_line_of}
-use Rattle.run.specs.BusLog.{free_in, appended, used_after}
+use Rattle.run.specs.BusLog.{Log, log_of, free_in, appended}
 use Rattle.run.specs.Run.{CallResult}
 use Rattle.run.specs.Report.{settings_in, answer_line}
 use Rattle.run.specs.Parts.{run_parts_of}
@@ -28,23 +28,33 @@ blank = replicate 65537 0
 abbrev pub unused : List ℕ
 unused = replicate 64 0xFFFFFFFF
 
--- the log that an item lends: so many entries are used, and 65,535 says that there is no log
-unfoldable pub log_in : ℕ → Log
-log_in used = cond (used == 65535) (record { lent = false; used = 0 }) (record { lent = true; used = used })
+-- the log that an item lends, by its used count: 65,535 says that there is none
+unfoldable pub log_in : ℕ → Option ℕ
+log_in used = cond (used == 65535) None (Some used)
+
+-- a log whose entries are unused but for so many, if one is lent
+abbrev pub lent_log : Option ℕ → Option Log
+lent_log None = None
+lent_log (Some used) = Some (log_of unused used)
+
+-- the list and the used count after these accesses; without a log the list is as it was, and the count 0
+abbrev pub log_left : Option ℕ → List Access → Log
+log_left None l = log_of unused 0
+log_left (Some used) l = appended (log_of unused used) l
 
 -- the call of a file that was read, on the pages and with the log that the item lends
 unfoldable pub call_result_of : List ℕ → Parsed → Lent → List ℕ → CallResult
 call_result_of file c lent sets =
-    run_parts_of (settings_in c.asked) (free_in lent.log unused) c.cpu
+    run_parts_of (settings_in c.asked) (free_in (lent_log lent.log)) c.cpu
     (prepare_of blank 0 lent.len0 lent.rule file c.page0 sets) lent.len0
     (prepare_of blank 1 lent.len1 lent.rule file c.page1 sets) lent.len1
 
 -- the sums over both pages after a call, then over all entries of the list, then over the used count
-abbrev pub result_sums : Log → CallResult → Sums
-result_sums log o = sums_after_of o.pages.page0 o.pages.page1 (appended log unused o.bus) (used_after log o.bus)
+abbrev pub result_sums : Option ℕ → CallResult → Sums
+result_sums log o = sums_after_of o.pages.page0 o.pages.page1 (log_left log o.bus).entries (log_left log o.bus).used
 
 -- a call tells another line than the wanted one, or leaves pages, list and used count of other sums
-abbrev pub result_differs : Log → CallResult → List ℕ → Sums → Bool
+abbrev pub result_differs : Option ℕ → CallResult → List ℕ → Sums → Bool
 result_differs log o want want_sums = bytes_differ (answer_line o.answer) want || not (same_sums (result_sums log o) want_sums)
 
 unfoldable pub call_differs_of : List ℕ → Parsed → Lent → List ℕ → List ℕ → Sums → Bool

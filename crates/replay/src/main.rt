@@ -16,14 +16,13 @@
 
 ghost use Rattle.std.specs.Prelude.{◌≡◌, ℕ, ◌+◌, ◌^◌, ◌<◌, ◌≤◌, List, None, Some, length, take, IfOk, IfSome, MatchOption};
 ghost use Rattle.std.specs.List.{AllZip};
-ghost use Rattle.run.specs.Parts.{RunParts};
 ghost use Rattle.replay.specs.Numbers.{number_at, with_number, sums_of, sums_after_of, both_of, next_byte_of};
 ghost use Rattle.replay.specs.Bytes.{fill_of, copy_page_of, set_of, patch_of, prepare_of};
 ghost use Rattle.replay.specs.Calls.{refusal_differs_of, log_in, call_differs_of, differs_of, lent_of, taken, item_of, replay_of, Replayed};
 
-use arithmetic::record::Lh5801;
+use bus::BusLog;
 use run::campaign_file::{PagePlace, Parsed, Refusal};
-use run::{Log, Logged, Settings, campaign_file, line, parts, report};
+use run::{Settings, campaign_file, line, parts, report};
 use std::io::Read;
 use std::rt::Files;
 use std::{fs, io};
@@ -54,13 +53,13 @@ struct Rule {
     step: u8,
 }
 
-// What an item lends its call: pages of two lengths, made by the fill rule, and a log.
+// What an item lends its call: pages of two lengths, made by the fill rule, and a log, of which so many entries are used.
 #[derive(Clone, Copy)]
 struct Lent {
     len0: usize,
     len1: usize,
     rule: Rule,
-    log: Log,
+    log: Option<usize>,
 }
 
 // How many calls were replayed, and how many of them answered something else than the list.
@@ -186,36 +185,14 @@ fn prepare(
 
 // The log that an item lends: so many entries are used, and 65,535 says that there is no log.
 #[tactic(auto, unfolding(crate::specs::Calls::log_in))]
-fn log_of(used: u64) -> Log
+fn log_of(used: u64) -> Option<usize>
     ensures { result ≡ log_in used }
 {
     if used == 65535 {
-        return Log {
-            lent: false,
-            used: 0,
-        };
+        None
+    } else {
+        Some(used as usize)
     }
-    Log {
-        lent: true,
-        used: used as usize,
-    }
-}
-
-// The run call on the starts of two arrays, with a list of 64 entries.
-fn run_pages(
-    cpu: Lh5801,
-    page0: &mut [u8; 65537],
-    len0: usize,
-    page1: &mut [u8; 65537],
-    len1: usize,
-    entries: &mut [u32; 64],
-    log: Log,
-    settings: Settings,
-) -> Logged
-    requires { (len0 ≤ 65537) × (len1 ≤ 65537) }
-    ensures { RunParts settings log cpu page0.old len0 page1.old len1 entries.old result page0.new page1.new entries.new }
-{
-    parts::run_parts(cpu, page0, len0, page1, len1, entries, log, settings)
 }
 
 // The sums over what a call leaves: the starts of both pages, all entries of the list, and the used count.
@@ -251,22 +228,22 @@ fn call_differs(
     let mut page1 = [0u8; 65537];
     let mut entries = [0xffff_ffffu32; 64];
     let mut out = [0u8; 200];
-    let len0 = lent.len0;
-    let len1 = lent.len1;
-    prepare(&mut page0, 0, len0, lent.rule, file, c.page0, sets);
-    prepare(&mut page1, 1, len1, lent.rule, file, c.page1, sets);
-    let r = run_pages(
-        c.cpu,
-        &mut page0,
-        len0,
-        &mut page1,
-        len1,
-        &mut entries,
-        lent.log,
-        Settings::from(c.asked),
-    );
-    let n = report::answer_line(&mut out, r.answer);
-    let sums = sums_after(&page0[..len0], &page1[..len1], &entries, r.used);
+    prepare(&mut page0, 0, lent.len0, lent.rule, file, c.page0, sets);
+    prepare(&mut page1, 1, lent.len1, lent.rule, file, c.page1, sets);
+    let page0 = &mut page0[..lent.len0];
+    let page1 = &mut page1[..lent.len1];
+    let mut log = BusLog {
+        entries: &mut entries,
+        used: lent.log.unwrap_or(0),
+    };
+    let settings = Settings::from(c.asked);
+    let answer = match lent.log {
+        None => run::run(c.cpu, page0, page1, None, settings),
+        Some(_) => run::run(c.cpu, page0, page1, Some(&mut log), settings),
+    };
+    let used = log.used;
+    let n = report::answer_line(&mut out, answer);
+    let sums = sums_after(page0, page1, &entries, used);
     (&out[..n] != want) | (sums != want_sums)
 }
 

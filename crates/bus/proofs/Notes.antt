@@ -1,9 +1,7 @@
 -- Entries noted one after the other, and what a log then holds.
 use Rattle.std.proofs.Common.{◌≡◌, ℕ, suc, ◌+◌, ◌-◌, ◌<◌, ◌≤◌, List, [], ◌∷◌, ◌++◌, map, length, take, drop, set, sym, refl, ap, ◌∙◌, add-zero, add-one, arith, length-append}
-use Rattle.std.specs.Borrow.{MutBor}
 use lib.ListN.{length-map}
 use lib.Seq.{sets, length-sets, sets-eq}
-use denote.Triple.Both.{Both}
 use Rattle.pages.specs.Pages.{Pages, at}
 use Rattle.pages.specs.Prog.{Access, read_of, exec}
 use Rattle.pages.specs.Stack.{up16}

@@ -1,6 +1,6 @@
 -- What an address reads after a write, from the length of page 0: the stack is there.
-use Rattle.std.proofs.Common.{◌≡◌, ℕ, ◌<◌, Bool, true, false, cond, ◌&&◌, eqb, ltb, List, length, refl, ◌∙◌}
-use Rattle.pages.specs.Pages.{pages, stored}
+use Rattle.std.proofs.Common.{◌≡◌, ℕ, ◌<◌, Bool, true, false, cond, ◌&&◌, eqb, ltb, List, length, refl}
+use Rattle.pages.specs.Pages.{pages}
 use Rattle.pages.proofs.Pages.{stored_page0}
 use Rattle.execution.specs.Code.Shapes.{after_write}
 

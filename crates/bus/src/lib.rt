@@ -7,14 +7,14 @@ ghost use Rattle.std.specs.Prelude.{◌≡◌, ◌≤◌, [], ◌∷◌};
 ghost use Rattle.pages.specs.Pages.{at as byte_at};
 ghost use Rattle.pages.specs.Prog.{read_of};
 ghost use Rattle.pages.specs.Contract.{as_shared};
-ghost use Rattle.execution.specs.Code.Shapes.{bytes_from, push_word_accesses, after_write, after_push_word, push_and_vector_accesses, vector_accesses, accept_accesses, changed_by, accesses_at, place_accesses, vector_if_accesses, shape_accesses, opcode_accesses, instruction_accesses};
+ghost use Rattle.execution.specs.Code.Shapes.{bytes_from, push_word_accesses, after_write, after_push_word, push_and_vector_accesses, vector_accesses, accept_accesses, accesses_at, place_accesses, vector_if_accesses, shape_accesses, opcode_accesses, instruction_accesses};
 ghost use Rattle.bus.specs.Code.Notes.{most, Notes, access_of, AppendsStep};
 
 use arithmetic::record::Lh5801;
-use execution::instructions::{Change, Condition};
+use execution::instructions::Condition;
 use execution::places::Place;
 use execution::shapes::{Action, Shape};
-use execution::{Opcode, flow, places};
+use execution::{Opcode, flow, operations, places};
 use pages::Memory;
 
 mod tables;
@@ -53,17 +53,6 @@ fn after_push_word(memory: &Memory, s: u16, w: u16, addr: u32, b: u8) -> u8
     let [high, low] = w.to_be_bytes();
     let first = after_write(memory, s, low, addr, b);
     after_write(memory, s.wrapping_sub(1), high, addr, first)
-}
-
-// What ANI, ORI and ADI write, from the memory byte and the immediate.
-fn changed(change: Change, b: u8, v: u8) -> u8
-    ensures { result ≡ changed_by change b v }
-{
-    match change {
-        Change::Ani => b & v,
-        Change::Ori => b | v,
-        Change::Adi => b.wrapping_add(v),
-    }
 }
 
 impl BusLog<'_> {
@@ -145,7 +134,11 @@ impl BusLog<'_> {
             Action::Update(change) => {
                 let v = self.read(memory, u32::from(p));
                 let b = self.read(memory, addr);
-                self.note(Kind::Write, addr, changed(change, b, v));
+                self.note(
+                    Kind::Write,
+                    addr,
+                    operations::changed(cpu.t, change, b, v).value,
+                );
             }
             Action::Test => {
                 self.read(memory, addr);
@@ -166,7 +159,7 @@ impl BusLog<'_> {
     fn place(&mut self, cpu: Lh5801, memory: &Memory, action: Action, place: Place)
         ensures { Notes (place_accesses cpu (as_shared memory) action place) self }
     {
-        if let Place::Fixed(page) = place {
+        if let Place::Fixed(_) = place {
             self.bytes(memory, cpu.p, 2);
         }
         let l = places::locate(cpu, memory, place);
@@ -211,8 +204,8 @@ impl BusLog<'_> {
         ensures { Notes (opcode_accesses (as_shared memory) p opcode) self }
     {
         match opcode {
-            Opcode::First(byte) => self.bytes(memory, p, 1),
-            Opcode::AfterFd(byte) => self.bytes(memory, p, 2),
+            Opcode::First(_) => self.bytes(memory, p, 1),
+            Opcode::AfterFd(_) => self.bytes(memory, p, 2),
         }
     }
 

@@ -1,9 +1,8 @@
 -- The accesses that specs/Code/Shapes.antt computes ahead of a step are those that the step makes.
-use Rattle.std.proofs.Common.{◌≡◌, ℕ, ◌+◌, ◌/◌, ◌%◌, ◌≤◌, Bool, true, false, cond, not, ◌&&◌, ◌||◌, eqb, List, [], ◌∷◌, ◌++◌, length, refl, ap, ◌∙◌, add-zero, append-nil, arith, eqb-true}
+use Rattle.std.proofs.Common.{◌≡◌, ℕ, ◌+◌, ◌/◌, ◌%◌, ◌≤◌, Bool, true, false, cond, not, ◌&&◌, ◌||◌, eqb, List, [], ◌∷◌, ◌++◌, length, refl, ap, ◌∙◌, append-nil, arith, eqb-true}
 use Rattle.arithmetic.specs.declared.record.Lh5801.{Lh5801}
 use Rattle.arithmetic.specs.Record.{with_p, with_s, with_t, with_ir1, with_ir2, with_is_timer_reached}
 use Rattle.arithmetic.specs.Flags.{IE, has_flag}
-use Rattle.arithmetic.specs.Sums.{add_of}
 use Rattle.pages.specs.declared.Code.{Code}
 use Rattle.pages.specs.Pages.{Pages, at, stored, store, SameLength}
 use Rattle.pages.specs.Prog.{Prog, done, ◌>>=◌, read, write, Access, read_of, after, exec}
@@ -16,7 +15,6 @@ use Rattle.execution.specs.declared.places.Page.{Page}
 use Rattle.execution.specs.declared.places.Place.{Place}
 use Rattle.execution.specs.declared.places.Place.TheVariants.{InHalf, Pointer, Fixed, InCode}
 use Rattle.execution.specs.declared.instructions.Change.{Change}
-use Rattle.execution.specs.declared.instructions.Change.TheVariants.{Ani, Ori, Adi}
 use Rattle.execution.specs.declared.instructions.Condition.{Condition}
 use Rattle.execution.specs.declared.instructions.Instruction.{Instruction}
 use Rattle.execution.specs.declared.instructions.Instruction.TheVariants.{Alu, Sta, Memory, Bii, Drr, Drl, Load, Compare, Inc, Dec, IncWord, DecWord, Sin, Sde, Lin, Lde, Branch, Lop, VectorIf, Vector, Jmp, Sjp, Rtn, Rti, LoadS, Tin, Cin, OnA, Sets, PopWord, PushWord, PopA, PushA, ToX, FromX, DropWord, Adr, Off, Hlt, Cdv, Nop}
@@ -26,11 +24,11 @@ use Rattle.execution.specs.declared.Opcode.{Opcode}
 use Rattle.execution.specs.declared.Opcode.TheVariants.{First, AfterFd}
 use Rattle.execution.specs.declared.shapes.Action.TheVariants.{Update, Test}
 use Rattle.execution.specs.Places.{locate_of, operand_of}
-use Rattle.execution.specs.Instructions.{operated, alu_of, store_of, sta_of, changed_of, memory_of, bii_of, drr_of, drl_of, load_of, compare_of, store_at_of, load_at_of, sin_of, sde_of, lin_of, lde_of, holds_of, branch_of, lop_of, vector_of, vector_if_of, jmp_of, sjp_of, rtn_of, rti_of, load_sOf, tin_of, cin_of, pop_to_of, push_from_of, execute_of}
+use Rattle.execution.specs.Instructions.{operated, alu_of, store_of, sta_of, memory_of, bii_of, drr_of, drl_of, load_of, compare_of, store_at_of, load_at_of, sin_of, sde_of, lin_of, lde_of, holds_of, branch_of, lop_of, vector_of, vector_if_of, jmp_of, sjp_of, rtn_of, rti_of, load_sOf, tin_of, cin_of, pop_to_of, push_from_of, execute_of}
 use Rattle.execution.specs.States.{added_of}
 use Rattle.execution.specs.Step.{StepEnd, did, stopped, instruction, fetched, fetch_of, decoded_by, decoded_step_of, instruction_of, interrupt_of, reached_of, halted_of, powered_of, step_of}
 use Rattle.execution.specs.Completed.{of_completed, completed_accesses}
-use Rattle.execution.specs.Code.Shapes.{opcode_at, bytes_from, after_write, after_push_word, vector_accesses, accept_accesses, changed_by, place_accesses, vector_if_accesses, shape_accesses, operand_shape, store_shape, shape_of, shape_in, shape_by, opcode_accesses, fetched_accesses, instruction_accesses, powered_accesses, step_accesses}
+use Rattle.execution.specs.Code.Shapes.{opcode_at, bytes_from, after_write, after_push_word, vector_accesses, accept_accesses, place_accesses, vector_if_accesses, shape_accesses, operand_shape, store_shape, shape_of, shape_in, shape_by, opcode_accesses, fetched_accesses, instruction_accesses, powered_accesses, step_accesses}
 use Rattle.execution.proofs.Choices.{cond_both}
 use Rattle.execution.proofs.OpcodeRead.{fetch_answer, fetch_pages}
 use Rattle.execution.proofs.Ways.{moved}
@@ -69,13 +67,6 @@ module _ (m : Lh5801) (pages : Pages) where
   unfolding vector_of push_word_of push_of mem16_of read write ◌>>=◌ exec after with_s
   vector_accesses_lem nr = rw (read_after_push_word pages m.s m.p (0xFF00 + nr), read_after_push_word pages m.s m.p (0xFF00 + nr + 1))
 
--- what is written does not go by T
-changed_lem : (t : ℕ) (o : Change) (b v : ℕ) → (changed_of t o b v).value ≡ changed_by o b v
-unfolding add_of
-changed_lem t Ani b v = refl
-changed_lem t Ori b v = refl
-changed_lem t Adi b v = ap (λ (n : ℕ). n % 256) (add-zero (b + v))
-
 module _ (m : Lh5801) (pages : Pages) where
   -- the byte of a place is read
   operand_accesses : (place : Place) (f : Code ℕ → Lh5801)
@@ -95,10 +86,10 @@ module _ (m : Lh5801) (pages : Pages) where
 
   memory_accesses : (o : Change) (place : Place) → (exec (memory_of m o place) pages).accesses ≡ place_accesses m pages (Update o) place
   unfolding memory_of locate_of readop_word_of readop_of read write ◌>>=◌ exec after
-  memory_accesses o (InHalf h) = rw (changed_lem m.t o)
-  memory_accesses o (Pointer page r) = rw (changed_lem m.t o)
-  memory_accesses o (Fixed page) = rw (changed_lem m.t o)
-  memory_accesses o InCode = rw (changed_lem m.t o)
+  memory_accesses o (InHalf h) = refl
+  memory_accesses o (Pointer page r) = refl
+  memory_accesses o (Fixed page) = refl
+  memory_accesses o InCode = refl
 
   bii_accesses : (place : Place) → (exec (bii_of m place) pages).accesses ≡ place_accesses m pages Test place
   unfolding bii_of locate_of readop_word_of readop_of read write ◌>>=◌ exec after

@@ -81,9 +81,8 @@ pub enum Signal {
     InterruptEnable,
 }
 
-// An instruction holds its operand place as a case inside its own case. The truth value of a branch
-// says that it goes forward, that of a signal says that it is set, and the number of Vector is that of
-// the vector, which VectorIf reads in the code.
+// An instruction holds its operand place as a case inside its own case. The truth value of a signal
+// says that it is set, and the number of Vector is that of the vector, which VectorIf reads in the code.
 #[derive(Clone, Copy)]
 pub enum Instruction {
     Alu(Operation, Place),

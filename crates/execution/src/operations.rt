@@ -55,7 +55,7 @@ pub fn sta(cpu: Lh5801, memory: &mut Memory, place: Place) -> Lh5801
 }
 
 // A memory byte with an immediate, and T.
-fn changed(t: u8, o: Change, byte: u8, v: u8) -> arithmetic::Sum<u8>
+pub fn changed(t: u8, o: Change, byte: u8, v: u8) -> arithmetic::Sum<u8>
     ensures { result ≡ changed_of t o byte v }
 {
     match o {

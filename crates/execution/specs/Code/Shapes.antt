@@ -1,7 +1,7 @@
 -- How the code is built, and need not be believed: proofs/AccessesAhead.antt shows that these are the accesses of the step.
 -- The accesses of the coming step, computed from the record and the pages before it, for the log of document 02's F-2. Each instruction has a
 -- shape, what is read and written after its own bytes; `shape_accesses` says what each shape stands for.
-use Rattle.std.specs.Prelude.{ℕ, zero, suc, ◌+◌, ◌/◌, ◌%◌, Bool, cond, not, ◌&&◌, ◌||◌, Option, Some, None, List, [], ◌∷◌, ◌++◌, ◌==◌, bit_and, bit_or}
+use Rattle.std.specs.Prelude.{ℕ, zero, suc, ◌+◌, ◌/◌, ◌%◌, Bool, cond, not, ◌&&◌, ◌||◌, Option, Some, None, List, [], ◌∷◌, ◌++◌, ◌==◌}
 use Rattle.arithmetic.specs.declared.record.Lh5801.{Lh5801}
 use Rattle.arithmetic.specs.Record.{with_p}
 use Rattle.arithmetic.specs.Flags.{IE, has_flag}
@@ -14,8 +14,6 @@ use Rattle.execution.specs.declared.places.Register.TheVariants.{X}
 use Rattle.execution.specs.declared.places.Page.TheVariants.{Me0}
 use Rattle.execution.specs.declared.places.Place.{Place}
 use Rattle.execution.specs.declared.places.Place.TheVariants.{InHalf, Pointer, Fixed, InCode}
-use Rattle.execution.specs.declared.instructions.Change.{Change}
-use Rattle.execution.specs.declared.instructions.Change.TheVariants.{Ani, Ori, Adi}
 use Rattle.execution.specs.declared.instructions.Condition.{Condition}
 use Rattle.execution.specs.declared.instructions.Instruction.{Instruction}
 use Rattle.execution.specs.declared.instructions.Instruction.TheVariants.{Alu, Sta, Memory, Bii, Drr, Drl, Load, Compare, Inc, Dec, IncWord, DecWord, Sin, Sde, Lin, Lde, Branch, Lop, VectorIf, Vector, Jmp, Sjp, Rtn, Rti, LoadS, Tin, Cin, OnA, Sets, PopWord, PushWord, PopA, PushA, ToX, FromX, DropWord, Adr, Off, Hlt, Cdv, Nop}
@@ -27,7 +25,7 @@ use Rattle.execution.specs.declared.shapes.Shape.TheVariants as shapes
 use Rattle.execution.specs.declared.Opcode.{Opcode}
 use Rattle.execution.specs.declared.Opcode.TheVariants.{First, AfterFd}
 use Rattle.execution.specs.Places.{word_in, locate_of}
-use Rattle.execution.specs.Instructions.{holds_of}
+use Rattle.execution.specs.Instructions.{changed_of, holds_of}
 use Rattle.execution.specs.Step.{fetched, decoded_by}
 
 -- the opcode that the pages hold at p
@@ -67,17 +65,11 @@ accept_accesses m pages a =
     write_of m.s m.t ∷ push_and_vector_accesses pages (down16 m.s) m.p a (after_write pages m.s m.t a (at pages a))
     (after_write pages m.s m.t (a + 1) (at pages (a + 1)))
 
--- what ANI, ORI and ADI write, from the memory byte b and the immediate v
-abbrev pub changed_by : Change → ℕ → ℕ → ℕ
-changed_by Ani b v = bit_and b v
-changed_by Ori b v = bit_or b v
-changed_by Adi b v = (b + v) % 256
-
 -- what is done at the address a, where the code goes on at p: ANI, ORI and ADI read the immediate before the memory byte, BII after it
 abbrev pub accesses_at : Lh5801 → Pages → Action → ℕ → ℕ → List Access
 accesses_at m pages Read a p = read_of a (at pages a) ∷ []
 accesses_at m pages StoreA a p = write_of a m.a ∷ []
-accesses_at m pages (Update o) a p = read_of p (at pages p) ∷ read_of a (at pages a) ∷ write_of a (changed_by o (at pages a) (at pages p)) ∷ []
+accesses_at m pages (Update o) a p = read_of p (at pages p) ∷ read_of a (at pages a) ∷ write_of a (changed_of m.t o (at pages a) (at pages p)).value ∷ []
 accesses_at m pages Test a p = read_of a (at pages a) ∷ read_of p (at pages p) ∷ []
 accesses_at m pages RotateRight a p = read_of a (at pages a) ∷ write_of a (drr_moved m.a (at pages a)).byte ∷ []
 accesses_at m pages RotateLeft a p = read_of a (at pages a) ∷ write_of a (drl_moved m.a (at pages a)).byte ∷ []

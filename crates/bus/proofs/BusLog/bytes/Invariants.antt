@@ -1,4 +1,4 @@
-use Rattle.std.proofs.Common.{◌≡◌, ℕ, ◌+◌, ◌-◌, ◌<◌, List, ◌++◌}
+use Rattle.std.proofs.Common.{◌≡◌, ◌-◌, List, ◌++◌}
 use Rattle.pages.specs.Prog.{Access}
 use Rattle.pages.specs.Contract.{held}
 use Rattle.execution.specs.Code.Shapes.{bytes_from}

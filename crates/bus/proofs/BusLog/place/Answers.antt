@@ -9,9 +9,8 @@ returns c =
     let there = rw c.locate-l.ensures.value at c.at.ensures in
     elim c.match-place.branch [
       | in-Fixed w ↦
-          rw (w.in-Fixed.is, fixed_bytes c.args.cpu w.in-Fixed.page (held c.args.memory.now))
-          (grows_then w.bytes.ensures (rw (w.place-is, w.self-is) at there))
+          rw (w.in-Fixed.is, fixed_bytes c.args.cpu w.in-Fixed.field-0 (held c.args.memory.now))
+          (grows_then w.bytes.ensures (rw (w.in-Fixed.is, w.self-is) at there))
       | in_default w ↦
-          rw (other_bytes c.args.cpu c.args.place (held c.args.memory.now) w.in_default.not-Fixed)
-          (rw (w.place-is, w.self-is) at there)
+          rw (other_bytes c.args.cpu c.args.place (held c.args.memory.now) w.in_default.not-Fixed) (rw w.self-is at there)
     ]

@@ -23,7 +23,7 @@ pub struct Code<T> {
     pub p: u16,
 }
 
-// A word from the stack, and S after it.
+// A word from the stack, and S after it: no `Code`, whose place is P.
 #[derive(Clone, Copy)]
 pub struct Popped {
     pub value: u16,

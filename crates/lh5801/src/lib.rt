@@ -61,7 +61,7 @@ fn words_of(r: Answer) -> [u64; 16]
     ]
 }
 
-// The run call; the used count after it is returned. In C: lh5801_call(words, page0, length0, page1, length1, limit, keyboard, idle, logged, log,
+// The run call; the used count after it is returned. `logged` says whether a log is lent, as C has no Option. In C: lh5801_call(words, page0, length0, page1, length1, limit, keyboard, idle, logged, log,
 // log_length, log_used).
 #[unsafe(no_mangle)]
 pub extern "C" fn lh5801_call(

@@ -23,7 +23,7 @@ pub struct Code<T> {
     pub p: u16,
 }
 
-// A word from the stack, and S after it.
+// A word from the stack, and S after it: no `Code`, whose place is P.
 #[derive(Clone, Copy)]
 pub struct Popped {
     pub value: u16,
@@ -60,6 +60,7 @@ pub fn word(high: u8, low: u8) -> u16
 }
 
 impl Memory<'_> {
+    // `as` here and below: no From gives a usize of a u32.
     #[tactic(auto, using(crate::proofs::Does::does_read0, crate::proofs::Does::does_read1))]
     pub fn read_byte(&self, addr: u32) -> u8
         ensures { Reads (read addr) self result }

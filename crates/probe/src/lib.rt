@@ -46,7 +46,7 @@ fn of_moved(t: u8, m: Moved) -> u32
     pack(m.byte, m.a, t)
 }
 
-// The function of a number on A, T and an operand: the byte stored (DRL and DRR; else 0), A and T.
+// The function of a number, as C has no enum of ours, on A, T and an operand: the byte stored (DRL and DRR; else 0), A and T.
 #[unsafe(no_mangle)]
 #[tactic(auto, unfolding(crate::specs::Answers::arithmetic_answer))]
 pub extern "C" fn probe_arithmetic(function: u8, a: u8, t: u8, operand: u8) -> u32

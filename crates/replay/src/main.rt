@@ -142,7 +142,7 @@ fn fill(page: &mut [u8], len: usize, rule: Rule)
     }
 }
 
-// One byte of a page, where it is this page's and lies in it.
+// One byte of a page, where it is this page's, which the item tells by a number, and lies in it.
 #[tactic(auto, unfolding(crate::specs::Bytes::set_of))]
 fn set(page: &mut [u8], is_here: bool, offset: usize, byte: u8)
     ensures { page.new ≡ set_of page.old is_here offset byte }
@@ -276,7 +276,7 @@ fn differs(file: &[u8], lent: Lent, sets: &[u8], want: &[u8], want_sums: Sums) -
     }
 }
 
-// What an item lends its call, by the item's first 16 bytes.
+// What an item lends its call, by the item's first 16 bytes. `as`: of a number of at most four bytes usize has all.
 #[tactic(auto, unfolding(crate::specs::Calls::lent_of))]
 fn lent_of(head: &[u8]) -> Lent
     requires { length head.now ≡ 16 }

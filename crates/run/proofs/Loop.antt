@@ -12,7 +12,8 @@ use Rattle.pages.proofs.Does.{mapped_value, mapped_pages, lent_same, lent_then}
 use Rattle.execution.specs.declared.Stop.{Stop}
 use Rattle.execution.specs.Step.{Kind, StepEnd, did, stopped, reached_of, step_of}
 use Rattle.execution.specs.Code.Outcomes.{outcome_of}
-use Rattle.execution.specs.Code.Due.{due_of, Ready}
+use Rattle.execution.specs.declared.Executed.{Executed}
+use Rattle.execution.specs.Code.Due.{due_of, Ready, executed_of}
 use Rattle.execution.proofs.Order.{reached_ready, reached_back, step_reached}
 use Rattle.execution.proofs.DueTest.{due_on}
 use Rattle.execution.proofs.StopsClean.{stop_no_write}
@@ -25,6 +26,13 @@ use Rattle.run.specs.Code.Leads.{AheadIs, Leads, LeadsIn, led, unmoved_of}
 use Rattle.run.specs.Answers.{Answers}
 use Rattle.run.specs.Code.States.{answer_of, states_between, AnswersIn}
 use Rattle.run.proofs.Ends.{reaches_run, reaches_stop, reaches_then, reaches_all, reaches_none, reaches_from, reaches_ticks, reaches_most}
+
+-- what an instruction was found to have come to is what its step does
+pub executed_by : (m : Lh5801) (inputs : Inputs) {p q : Memory} {r o : Result Executed Stop}
+    → Does (mapped executed_of (step_of m inputs)) p r q
+    → r ≡ o
+    → Does (mapped executed_of (step_of m inputs)) p o q
+executed_by m inputs {p} {q} d e = subst (λ (x : Result Executed Stop). Does (mapped executed_of (step_of m inputs)) p x q) e d
 
 -- after so many completed steps: what they have led to
 pub record Going (inputs : Inputs) (limit : ℕ) (first : Lh5801) (from : Pages) (steps : ℕ) (m : Lh5801) (p : Pages) : Type 0 where

@@ -178,7 +178,7 @@ impl Cursor<'_> {
     }
 }
 
-// What the numbers and the pages' places say.
+// What the numbers and the pages' places say. `as`: each number is within its field, so that a try_from could not fail.
 fn parsed_of(values: &[u64; 14], page0: PagePlace, page1: PagePlace) -> Parsed
     requires { AllWithin greatest_values values.now }
     ensures { result ≡ parsed_of values.now page0 page1 }

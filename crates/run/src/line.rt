@@ -55,7 +55,7 @@ impl LineText {
         self.len += 1;
     }
 
-    // The digits of a number, without leading zeros.
+    // The digits of a number, without leading zeros; by recursion, since `write!` promises only what an Ok means.
     #[tactic(auto, using(crate::proofs::PrintedLine::decimal_one, crate::proofs::PrintedLine::decimal_more, crate::proofs::PrintedLine::length_one, crate::proofs::PrintedLine::length_more, std::proofs::Common::append_assoc))]
     fn put_decimal(&mut self, value: u64)
         requires { length self.old + length (decimal_of value) ≤ 200 }

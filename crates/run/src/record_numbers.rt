@@ -37,7 +37,7 @@ pub fn from_record(cpu: Lh5801) -> [u64; 12]
     ]
 }
 
-// The record of the first twelve numbers. The counters have 64 bits, as the numbers do, and of the flags nine bits are looked at.
+// The record of the first twelve numbers, by their places in the file. `as`: each is within its field. The counters have 64 bits, as the numbers do, and of the flags nine bits are looked at.
 #[tactic(auto, using(crate::proofs::RecordNumbers::within_at), unfolding(crate::specs::RecordNumbers::record_of))]
 pub fn record_of(numbers: &[u64]) -> Lh5801
     requires { (12 ≤ length numbers.now) × AllWithin (take 8 widths) numbers.now }

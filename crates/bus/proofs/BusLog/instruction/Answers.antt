@@ -9,4 +9,6 @@ returns-in-None c = rw (← fetch_answer _ _, ← c.fetch-o.ensures.value, ← c
 
 pub returns-in-Some : goal.returns-in-Some
 unfolding instruction_accesses
-returns-in-Some c = rw (← fetch_answer _ _, ← c.fetch-o.ensures.value, ← c.shape_of.ensures, c.in-Some.is) (grows_then c.opcode.ensures (rw c.with_p.ensures at c.shape.ensures))
+returns-in-Some c =
+    rw (← fetch_answer _ _, ← c.fetch-o.ensures.value, ← c.shape_of.ensures, c.in-Some.is, ← c.with_p.ensures)
+    (grows_then c.opcode.ensures c.shape.ensures)

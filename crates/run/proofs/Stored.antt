@@ -1,5 +1,5 @@
--- Pages whose start was put anew.
-use Rattle.std.proofs.Common.{slice_range, ◌-◌, ◌≡◌, ℕ, ◌+◌, ◌≤◌, List, ◌++◌, length, take, drop, ap, arith, length-append, length-drop, length-take-le, take_at, drop_at}
+-- Parts of a file at the start of a page.
+use Rattle.std.proofs.Common.{slice_range, ◌-◌, ◌≡◌, ℕ, ◌+◌, ◌≤◌, List, ◌++◌, length, take, drop, ap, arith, length-drop, length-take-le, take_at}
 use lib.Seq.{sets-eq}
 use Rattle.run.specs.Parts.{part, at_start}
 
@@ -19,17 +19,6 @@ pub put_before : (page bytes : List ℕ) (len : ℕ) → length bytes ≡ len �
 put_before page bytes len many fits =
     let end : 0 + length bytes ≡ len = omega arith in
     rw (sets-eq bytes page 0 (omega arith), end)
-
--- a page whose start was put anew and whose length stands: the new start, and the rest as it was
-module _ (after start page : List ℕ) (n : ℕ) (e : after ≡ start ++ drop n page) (h : n ≤ length page) (same : length after ≡ length page) where
-  start_length : length start ≡ n
-  start_length = omega (arith, ap length e, length-append start (drop n page), length-drop n page)
-
-  pub start_is : take n after ≡ start
-  start_is = rw e (take_at start (drop n page) n start_length)
-
-  pub rest_is : drop n after ≡ drop n page
-  rest_is = rw e (drop_at start (drop n page) n start_length)
 
 -- a part that was stored at the start of a page that it fits in is that start
 pub copied : (page after bytes : List ℕ) (at : ℕ) {len : ℕ} → after ≡ at_start page (part bytes at len) → at + len ≤ length bytes → len ≤ length page

@@ -33,7 +33,7 @@ fn hex_digit(value: u16) -> u8
     requires { value < 16 }
     ensures { result ≡ hex_digit value }
 {
-    b"0123456789ABCDEF"[value as usize]
+    b"0123456789ABCDEF"[usize::from(value)]
 }
 
 impl LineText {

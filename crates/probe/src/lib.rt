@@ -25,7 +25,7 @@ fn blank(a: u8, t: u8) -> Lh5801
 fn pack(byte: u8, a: u8, t: u8) -> u32
     ensures { result ≡ packed byte a t }
 {
-    u32::from(byte) * 65536 + u32::from(a) * 256 + u32::from(t)
+    u32::from_be_bytes([0, byte, a, t])
 }
 
 fn of_record(cpu: Lh5801) -> u32

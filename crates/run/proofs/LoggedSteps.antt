@@ -1,6 +1,6 @@
 -- The steps of a call with a log: before each the log is looked at and its accesses are appended, and then it is done alone, as without a log.
-use Rattle.std.proofs.Common.{◌≡◌, ℕ, ◌+◌, ◌*◌, ◌<◌, ◌≤◌, List, [], ◌++◌, sym, refl, ap, ◌∙◌, append-nil, zero-add, true≢false, arith, subst}
-use Rattle.std.specs.Prelude.{Bool, true, false, None, Some}
+use Rattle.std.proofs.Common.{◌≡◌, ℕ, ◌+◌, ◌*◌, ◌<◌, ◌≤◌, List, [], ◌++◌, sym, refl, ap, ◌∙◌, append-nil, arith, subst}
+use Rattle.std.specs.Prelude.{None, Some}
 use Rattle.arithmetic.specs.declared.record.Lh5801.{Lh5801}
 use Rattle.execution.specs.declared.Inputs.{Inputs}
 use Rattle.execution.specs.Step.{StepEnd, did, stopped}
@@ -19,7 +19,7 @@ use Rattle.run.specs.BusLog.{held_log, free_of, free_after, Full, NotFull}
 use Rattle.run.specs.Run.{CallResult, call_result, no_step, completed, one_step, run_of}
 use Rattle.run.specs.Reaches.{Reaches, start}
 use Rattle.run.specs.Answers.{Logged}
-use Rattle.run.specs.Code.States.{answer_of, AnswersIn, LoggedIn, LentIn}
+use Rattle.run.specs.Code.States.{answer_of, AnswersIn, LoggedIn}
 use Rattle.run.proofs.BusLog.{appended_free, logged_none, logged_then}
 use Rattle.run.proofs.Steps.{run_did, run_stop}
 use Rattle.run.proofs.Ends.{Ended, all, none_free, early, run_ended, run_reaches, reaches_run, reaches_full, reaches_stop, reaches_all, reaches_none, reaches_logged, reaches_most}
@@ -137,81 +137,3 @@ module _ {s : Settings} {before : BusLog} {first : Lh5801} {l : Memory} {a : Ans
               reaches_stop s.limit (reaches_all g.reached (reaches_logged clear (omega arith) part_reaches)) (omega (arith, k))
               (rw ((reaches_none part_reaches k).3, append-nil) clear, y.1)
               ∙ ap (λ (u : End). call_result u (a.steps + part.answer.steps) (a.states + part.answer.states) part.answer.cpu part.pages (g.bus ++ part.bus)) (sym e)
-
--- what the loop over rounds keeps. Where no log is lent, all the steps are one round: nothing is done yet, or that round is done
-pub data Rounds (s : Settings) (before : BusLog) (first : Lh5801) (l : Memory) : Bool → Answer → Memory → BusLog → Type 0 where
-  logging : {a : Answer} {n : Memory} {now : BusLog} → Logging s before first l a n now → Rounds s before first l true a n now
-  not_begun : {now : BusLog} → Rounds s before first l false (answer_of AllSteps 0 0 first) l now
-  done : {a : Answer} {n : Memory} {now : BusLog} → s.limit ≤ a.steps → AnswersIn (run_of s.limit s.inputs None first (held l)) l a n
-      → Rounds s before first l false a n now
-
--- how many steps a round is, and what is known of a log that was looked at before it
-abbrev pub round_limit : Bool → Settings → ℕ
-round_limit true s = 1
-round_limit false s = s.limit
-
-pub data Looked (s : Settings) (m : Lh5801) (n : Memory) : Bool → BusLog → BusLog → Type 0 where
-  looked : {now after : BusLog} → NotFull (Some (free_of (held_log now))) → Logged (completed_accesses (one_step s.inputs m (held n))) now after
-      → Looked s m n true now after
-  not_lent : {now after : BusLog} → Looked s m n false now after
-
-pub rounds_start : (lent : Bool) (s : Settings) (log : BusLog) (m : Lh5801) (l : Memory) → Rounds s log m l lent (answer_of AllSteps 0 0 m) l log
-rounds_start true s log m l = logging (logging_start s log m l)
-rounds_start false s log m l = not_begun
-
--- no more steps than the limit
-run_most : (n : ℕ) (inputs : Inputs) (m : Lh5801) (p : Pages) → (run_of n inputs None m p).answer.steps ≤ n
-run_most n inputs m p = go (run_ended n inputs None m p)
-  where
-    go : Ended inputs n None (run_of n inputs None m p) → (run_of n inputs None m p).answer.steps ≤ n
-    go (all e h) = omega arith
-    go (none_free e h f) = omega arith
-    go (early x e h y) = omega arith
-
-module _ {s : Settings} {before : BusLog} {first : Lh5801} {l : Memory} where
-  -- the limit is reached
-  pub rounds_done : {lent : Bool} {a : Answer} {n : Memory} {now : BusLog} → Rounds s before first l lent a n now → s.limit ≤ a.steps → LentIn lent s first l a n before now
-  rounds_done (logging g) h = logging_done g h
-  rounds_done not_begun h =
-      let e : s.limit ≡ 0 = omega arith in
-      let r : run_of s.limit s.inputs None first (held l) ≡ _ = ap (λ (j : ℕ). run_of j s.inputs None first (held l)) e ∙ reaches_run start in
-      rw r (record { answers = record { answer = refl; pages = refl }; lent = lent_same })
-  rounds_done (done i d) h = d
-
-  -- the log is full before the next round
-  pub rounds_full : {lent : Bool} {a : Answer} {n : Memory} {now : BusLog} → Rounds s before first l lent a n now → lent ≡ true → a.steps < s.limit
-      → Full (Some (free_of (held_log now)))
-      → LentIn lent s first l (answer_of LogFull a.steps a.states a.cpu) n before now
-  rounds_full (logging g) e h f = logging_full g h f
-  rounds_full not_begun e h f = absurd (true≢false (sym e))
-  rounds_full (done i d) e h f = absurd (omega (arith, i))
-
-  -- the sums stay in their types
-  pub rounds_sums : {lent : Bool} {a r : Answer} {n o : Memory} {now : BusLog} → Rounds s before first l lent a n now
-      → AnswersIn (run_of (round_limit lent s) s.inputs None a.cpu (held n)) n r o → a.steps < s.limit → s.inputs.idle ≤ 255
-      → (a.steps + r.steps ≤ s.limit) × (a.states + r.states ≤ 255 * s.limit)
-  rounds_sums (logging g) d h i = (logging_steps g d h, logging_states g d h i)
-  rounds_sums not_begun d h i =
-      rw d.answers.answer (
-        omega (arith, run_most s.limit s.inputs first (held l)),
-        omega (arith, run_most s.limit s.inputs first (held l), reaches_most i (run_reaches s.limit s.inputs None first (held l))),
-      )
-  rounds_sums (done i d) e h j = absurd (omega (arith, i))
-
-  -- a round that is cut short is the last
-  pub rounds_ends : {lent : Bool} {a r : Answer} {n o : Memory} {now after : BusLog} → Rounds s before first l lent a n now
-      → AnswersIn (run_of (round_limit lent s) s.inputs None a.cpu (held n)) n r o → a.steps < s.limit → Looked s a.cpu n lent now after
-      → r.steps < round_limit lent s
-      → LentIn lent s first l (answer_of r.end (a.steps + r.steps) (a.states + r.states) r.cpu) o before after
-  rounds_ends (logging g) d h (looked f w) z = logging_stops g d h f w (omega arith)
-  rounds_ends {r = r} not_begun d h k z = rw (zero-add r.steps, zero-add r.states) d
-  rounds_ends (done i d) e h k z = absurd (omega (arith, i))
-
-  -- after another, the next may come
-  pub rounds_next : {lent : Bool} {a r : Answer} {n o : Memory} {now after : BusLog} → Rounds s before first l lent a n now
-      → AnswersIn (run_of (round_limit lent s) s.inputs None a.cpu (held n)) n r o → a.steps < s.limit → Looked s a.cpu n lent now after
-      → round_limit lent s ≤ r.steps
-      → Rounds s before first l lent (answer_of r.end (a.steps + r.steps) (a.states + r.states) r.cpu) o after
-  rounds_next (logging g) d h (looked f w) z = logging (logging_next g d h f w (omega arith))
-  rounds_next {r = r} not_begun d h k z = rw (zero-add r.steps, zero-add r.states) (done z d)
-  rounds_next (done i d) e h k z = absurd (omega (arith, i))

@@ -10,7 +10,7 @@ ghost use Rattle.run.specs.BusLog.{held_log, free_of, log_full};
 ghost use Rattle.run.specs.Run.{run_of, call_of};
 ghost use Rattle.run.specs.Answers.{lent_free, CallAnswers};
 ghost use Rattle.run.specs.Code.Leads.{unmoved_of, LeadsIn};
-ghost use Rattle.run.specs.Code.States.{answer_of, states_between, AnswersIn, LentIn};
+ghost use Rattle.run.specs.Code.States.{answer_of, states_between, AnswersIn, LoggedIn};
 ghost use Rattle.run.specs.Code.Coming.{NotesComing};
 
 use arithmetic::record::Lh5801;
@@ -241,21 +241,14 @@ fn total(before: Answer, after: Answer) -> Answer
     }
 }
 
-// The steps of a call: without a log all of them are one round; with one a round is one step, and the log is looked at before it. Where no log is lent,
-// the one that is handed over is not looked at: the proof does not follow an Option of a log through the loop.
-fn rounds(
-    cpu: Lh5801,
-    memory: &mut Memory,
-    lent: bool,
-    log: &mut BusLog,
-    settings: Settings,
-) -> Answer
+// The same with a log: it is looked at before each step.
+fn logged_steps(cpu: Lh5801, memory: &mut Memory, log: &mut BusLog, settings: Settings) -> Answer
     requires { settings.limit ≤ 1000000 }
-    ensures { LentIn lent settings cpu memory.entry.now result memory.exit.now log.old log.new }
+    ensures { LoggedIn (run_of settings.limit settings.inputs (Some (free_of (held_log log.old))) cpu (at_entry memory)) memory.entry.now result memory.exit.now log.old log.new }
 {
-    let round = Settings {
+    let one = Settings {
         inputs: settings.inputs,
-        limit: if lent { 1 } else { settings.limit },
+        limit: 1,
     };
     let mut all = Answer {
         end: End::AllSteps,
@@ -265,15 +258,15 @@ fn rounds(
     };
     while all.steps < settings.limit {
         // A record of its own is lent to the look: the loop's would stand in memory.
-        if lent && note_coming(unmoved(all.cpu, all.cpu), memory, log) {
+        if note_coming(unmoved(all.cpu, all.cpu), memory, log) {
             return Answer {
                 end: End::LogFull,
                 ..all
             };
         }
-        let part = steps_of(all.cpu, memory, round);
-        all = total(all, part);
-        if part.steps < round.limit {
+        let step = steps_of(all.cpu, memory, one);
+        all = total(all, step);
+        if step.steps == 0 {
             return all;
         }
     }
@@ -320,13 +313,7 @@ pub fn run(
         };
     }
     match log {
-        None => {
-            let mut unlent = BusLog {
-                entries: &mut [],
-                used: 0,
-            };
-            rounds(cpu, &mut memory, false, &mut unlent, settings)
-        }
-        Some(log) => rounds(cpu, &mut memory, true, log, settings),
+        None => steps_of(cpu, &mut memory, settings),
+        Some(log) => logged_steps(cpu, &mut memory, log, settings),
     }
 }

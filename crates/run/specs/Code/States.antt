@@ -1,14 +1,12 @@
 -- How the code is built, and need not be believed (proofs/Loop.antt ties it): the answer is put together at its end, and its states are counted by the ticks.
-use Rattle.std.specs.Prelude.{ℕ, Bool, true, false, Some, None, ◌+◌, ◌-◌, ◌%◌, ◌^◌}
+use Rattle.std.specs.Prelude.{ℕ, ◌+◌, ◌-◌, ◌%◌, ◌^◌}
 use Rattle.arithmetic.specs.declared.record.Lh5801.{Lh5801}
 use Rattle.pages.specs.declared.Memory.{Memory}
 use Rattle.pages.specs.Contract.{held, SameLent}
 use Rattle.bus.specs.declared.BusLog.{BusLog}
 use Rattle.run.specs.declared.End.{End}
 use Rattle.run.specs.declared.Answer.{Answer}
-use Rattle.run.specs.declared.Settings.{Settings}
-use Rattle.run.specs.BusLog.{held_log, free_of}
-use Rattle.run.specs.Run.{CallResult, run_of}
+use Rattle.run.specs.Run.{CallResult}
 use Rattle.run.specs.Answers.{Answers, Logged}
 
 abbrev pub answer_of : End → ℕ → ℕ → Lh5801 → Answer
@@ -27,8 +25,3 @@ pub record AnswersIn (o : CallResult) (l : Memory) (r : Answer) (n : Memory) : T
 pub record LoggedIn (o : CallResult) (l : Memory) (r : Answer) (n : Memory) (before after : BusLog) : Type 0 where
   pub part : AnswersIn o l r n
   pub logged : Logged o.bus before after
-
--- the steps of a call, with a log where one is lent
-abbrev pub LentIn : Bool → Settings → Lh5801 → Memory → Answer → Memory → BusLog → BusLog → Type 0
-LentIn true s m l r n before after = LoggedIn (run_of s.limit s.inputs (Some (free_of (held_log before))) m (held l)) l r n before after
-LentIn false s m l r n before after = AnswersIn (run_of s.limit s.inputs None m (held l)) l r n

@@ -1,5 +1,6 @@
-//! The symbols of the port's archive: the exported entry, and no other function but those that a log
-//! needs, which are kept out of the loops (docs/DECISIONS.md, F-2).
+//! The symbols of the port's archive: the exported entry, the loop over steps, which a call with a log
+//! and one without both take, and no other function but those that a log needs, which are kept out of
+//! that loop (docs/DECISIONS.md, F-2).
 
 #![forbid(unsafe_code)]
 
@@ -27,9 +28,9 @@ fn is_text(kind: char) -> bool {
 }
 
 /// A function that computes a log's entries, not exported: of the crate `bus`, or the run's own look
-/// at the log before a step.
+/// at the log before a step; or the loop over steps.
 fn is_of_log(kind: char, name: &str) -> bool {
-    kind == 't' && (name.contains("bus") || name.contains("note_coming"))
+    kind == 't' && ["bus", "note_coming", "run::steps_of"].iter().any(|it| name.contains(it))
 }
 
 /// Is the entry exported, and is every other function the log's?
@@ -39,7 +40,8 @@ fn entry_alone(symbols: &[(char, String)]) -> bool {
     symbols.contains(&('T', ENTRY.to_string())) && !symbols.iter().any(other)
 }
 
-/// Checks the archive; true where the entry is its only function besides those of the log.
+/// Checks the archive; true where the entry is its only function besides the loop over steps and those
+/// of the log.
 pub fn run(archive: &Path) -> Result<bool, String> {
     if !archive.is_file() {
         return Err(format!(
@@ -64,7 +66,7 @@ pub fn run(archive: &Path) -> Result<bool, String> {
     println!("other symbols: {}", of(&|kind| kind != 'U' && !is_text(kind)).join(" "));
     let alone = entry_alone(&symbols);
     let only = if alone { "the only" } else { "NOT the only" };
-    println!("{ENTRY} is {only} function besides those of the log");
+    println!("{ENTRY} is {only} function besides the loop over steps and those of the log");
     Ok(alone)
 }
 
@@ -85,7 +87,9 @@ mod tests {
         let with = |line: &str| entry_alone(&symbols(&format!("0000 T lh5801_call\n{line}\n")));
         assert!(with("0000 t bus::note_at"));
         assert!(with("0000 t run::note_coming"));
-        assert!(!with("0000 t run::steps_of"));
+        assert!(with("0000 t run::steps_of"));
+        assert!(!with("0000 T run::steps_of"));
+        assert!(!with("0000 t run::advance"));
         assert!(!with("0000 T bus::note_at"));
         assert!(!entry_alone(&symbols("0000 t lh5801_call\n")));
     }

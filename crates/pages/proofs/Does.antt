@@ -1,9 +1,9 @@
 -- How what functions do in the memory is put together. Callers cite these laws and open neither `exec` nor the pages.
 use Rattle.std.proofs.Common.{◌≡◌, ℕ, ◌-◌, ◌<◌, ◌≤◌, get_or, set, sym, refl, ap, ◌∙◌, subst}
 use Rattle.pages.specs.declared.Memory.{Memory}
-use Rattle.pages.specs.Pages.{at, store}
+use Rattle.pages.specs.Pages.{Pages, at, store}
 use Rattle.pages.specs.Prog.{Prog, done, ◌>>=◌, mapped, read, write, after, exec}
-use Rattle.pages.specs.Contract.{held, SameLent, Does}
+use Rattle.pages.specs.Contract.{held, SameLent, Does, Gives}
 use Rattle.pages.specs.Stack.{up16, readop_of}
 use Rattle.pages.proofs.Pages.{at_page0, at_page1, store_page0, store_page1}
 use Rattle.pages.proofs.Exec.{bind_answer, bind_pages}
@@ -50,13 +50,27 @@ does_through f g h e p {m} {n} d =
     subst (λ c. Does (mapped g p) m c n) (sym (ap h (mapped_value f p d) ∙ e (exec p (held m)).answer))
     (does_mapped g (record { value = refl; pages = mapped_pages f p d; lent = d.lent }))
 
+-- pages that are only read: no access, one program after another
+pub gives_done : {A : Type 0} {a r : A} {q : Pages} → r ≡ a → Gives (done a) q r
+unfolding exec
+gives_done e = record { value = e; pages = refl }
+
+pub gives_then : {A B : Type 0} {p : Prog A} (f : A → Prog B) {q : Pages} {r : A} {s : B} → Gives p q r → Gives (f r) q s → Gives (p >>= f) q s
+gives_then {p = p} f {q} d e = record { value = cc (bind_answer p f q); pages = cc (bind_pages p f q) }
+
+-- what is read in a memory is done in it
+pub does_gives : {A : Type 0} {p : Prog A} {m : Memory} {q : Pages} {r : A} → q ≡ held m → Gives p q r → Does p m r m
+does_gives {p = p} {m = m} {r = r} e d =
+    let g : Gives p (held m) r = subst (λ q. Gives p q r) e d in
+    record { value = g.value; pages = g.pages; lent = lent_same }
+
 -- one access
-pub does_read : (a : ℕ) {b : ℕ} {m : Memory} → b ≡ at (held m) a → Does (read a) m b m
+pub gives_read : (a : ℕ) {b : ℕ} {q : Pages} → b ≡ at q a → Gives (read a) q b
 unfolding exec after read
-does_read a e = record { value = e; pages = refl; lent = lent_same }
+gives_read a e = record { value = e; pages = refl }
 
 -- and back: what one read gave is the byte there
-pub read_value : (a : ℕ) {b : ℕ} {m n : Memory} → Does (read a) m b n → b ≡ at (held m) a
+pub read_value : (a : ℕ) {b : ℕ} {q : Pages} → Gives (read a) q b → b ≡ at q a
 unfolding exec after read
 read_value a d = d.value
 
@@ -64,17 +78,12 @@ pub does_write : (a v : ℕ) {m n : Memory} → SameLent m n → held n ≡ stor
 unfolding exec after write
 does_write a v s e = record { value = refl; pages = sym e; lent = s }
 
--- a byte of the code
-pub does_readop : (p : ℕ) {m : Memory} → Does (readop_of p) m (record { value = at (held m) p; p = up16 p }) m
-unfolding readop_of
-does_readop p = does_then _ (does_read p refl) (does_done refl)
-
 -- one access, by the page that it goes to: only `read_byte` and `write_byte` need these
-pub does_read0 : {a b : ℕ} {m : Memory} → a < 0x10000 → b ≡ get_or m.page0.now a 0xFF → Does (read a) m b m
-does_read0 {a} {m = m} h e = does_read a (e ∙ sym (at_page0 m.page0.now m.page1.now a h))
+pub gives_read0 : {a b : ℕ} {q : Pages} → a < 0x10000 → b ≡ get_or q.page0 a 0xFF → Gives (read a) q b
+gives_read0 {a} {q = q} h e = gives_read a (e ∙ sym (at_page0 q.page0 q.page1 a h))
 
-pub does_read1 : {a b : ℕ} {m : Memory} → 0x10000 ≤ a → b ≡ get_or m.page1.now (a - 0x10000) 0xFF → Does (read a) m b m
-does_read1 {a} {m = m} h e = does_read a (e ∙ sym (at_page1 m.page0.now m.page1.now a h))
+pub gives_read1 : {a b : ℕ} {q : Pages} → 0x10000 ≤ a → b ≡ get_or q.page1 (a - 0x10000) 0xFF → Gives (read a) q b
+gives_read1 {a} {q = q} h e = gives_read a (e ∙ sym (at_page1 q.page0 q.page1 a h))
 
 pub does_write0 : (a v : ℕ) {m n : Memory} → SameLent m n → a < 0x10000 → n.page0.now ≡ set m.page0.now a v → n.page1.now ≡ m.page1.now → Does (write a v) m tt n
 does_write0 a v {m} {n} s h e o = does_write a v s (rw (e, o) (sym (store_page0 m.page0.now m.page1.now a v h)))

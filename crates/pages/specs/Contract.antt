@@ -3,6 +3,7 @@ use Rattle.std.specs.Prelude.{◌≡◌}
 use Rattle.std.specs.Borrow.{Bor, MutBor}
 use denote.Triple.Both.{Both}
 use Rattle.pages.specs.declared.Memory.{Memory}
+use Rattle.pages.specs.declared.View.{View}
 use Rattle.pages.specs.Pages.{Pages, pages}
 use Rattle.pages.specs.Prog.{Prog, exec}
 
@@ -21,12 +22,9 @@ pub record Does {A : Type 0} (p : Prog A) (l : Memory) (r : A) (n : Memory) : Ty
   pub pages : (exec p (held l)).pages ≡ held n
   pub lent : SameLent l n
 
--- the memory as a function gets it lent, at entry and at exit: to write, and only to read
+-- the memory as a function gets it lent, at entry and at exit
 abbrev pub LentMemory : Type 0
 LentMemory = Both (MutBor Memory) (MutBor Memory)
-
-abbrev pub SharedMemory : Type 0
-SharedMemory = Both (Bor Memory) (Bor Memory)
 
 abbrev pub at_entry : LentMemory → Pages
 at_entry memory = held memory.entry.now
@@ -34,13 +32,21 @@ at_entry memory = held memory.entry.now
 abbrev pub at_exit : LentMemory → Pages
 at_exit memory = held memory.exit.now
 
-abbrev pub as_shared : SharedMemory → Pages
-as_shared memory = held memory.entry.now
-
 -- from the memory at entry, p gives r and leaves the memory at exit
 abbrev pub Changes : {A : Type 0} → Prog A → LentMemory → A → Type 0
 Changes p memory r = Does p memory.entry.now r memory.exit.now
 
--- the same of a memory that is only read: p gives r and leaves it as it was
-abbrev pub Reads : {A : Type 0} → Prog A → SharedMemory → A → Type 0
-Reads p memory r = Does p memory.entry.now r memory.entry.now
+-- the same of pages that are only read: p gives r and leaves them as they are
+pub record Gives {A : Type 0} (p : Prog A) (q : Pages) (r : A) : Type 0 where
+  pub value : r ≡ (exec p q).answer
+  pub pages : (exec p q).pages ≡ q
+
+-- the bytes that a view shows
+abbrev pub seen : View → Pages
+seen view = pages view.page0.now view.page1.now
+
+abbrev pub as_shared : Both View View → Pages
+as_shared view = seen view.entry
+
+abbrev pub Reads : {A : Type 0} → Prog A → Both View View → A → Type 0
+Reads p view r = Gives p (as_shared view) r

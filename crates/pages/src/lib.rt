@@ -3,7 +3,7 @@
 
 ghost use Rattle.std.specs.Prelude.{◌≡◌, ◌<◌, set, slice_index_or, slice_set};
 ghost use Rattle.pages.specs.Prog.{read, write};
-ghost use Rattle.pages.specs.Contract.{Changes, Reads};
+ghost use Rattle.pages.specs.Contract.{Changes, Reads, held, seen};
 ghost use Rattle.pages.specs.Stack.{me1_of, word_of, readop_of, readop_word_of, mem16_of, push_of, push_word_of, pop_of, pop_word_of, push_state_of, accept_of};
 ghost use Rattle.pages.specs.Timer.{add_state_of, timer_inc_of, passed_of, timer_part_of};
 
@@ -14,6 +14,13 @@ use arithmetic::record::Lh5801;
 pub struct Memory<'a> {
     pub page0: &'a mut [u8],
     pub page1: &'a mut [u8],
+}
+
+// The same pages, only to be read.
+#[derive(Clone, Copy)]
+pub struct View<'a> {
+    pub page0: &'a [u8],
+    pub page1: &'a [u8],
 }
 
 // A byte or a word of the code, and the place after it.
@@ -59,16 +66,53 @@ pub fn word(high: u8, low: u8) -> u16
     u16::from_be_bytes([high, low])
 }
 
-impl Memory<'_> {
+impl View<'_> {
     // `as` here and below: no From gives a usize of a u32.
-    #[tactic(auto, using(crate::proofs::Does::does_read0, crate::proofs::Does::does_read1))]
-    pub fn read_byte(&self, addr: u32) -> u8
+    #[tactic(auto, using(crate::proofs::Does::gives_read0, crate::proofs::Does::gives_read1))]
+    pub fn read_byte(self, addr: u32) -> u8
         ensures { Reads (read addr) self result }
     {
         if addr < 65536 {
             byte_at(self.page0, addr as usize)
         } else {
             byte_at(self.page1, (addr - 65536) as usize)
+        }
+    }
+
+    pub fn cpu_readop(self, p: u16) -> Code<u8>
+        ensures { Reads (readop_of p) self result }
+    {
+        let value = self.read_byte(u32::from(p));
+        let next = p.wrapping_add(1);
+        Code { value, p: next }
+    }
+
+    pub fn readop_word(self, p: u16) -> Code<u16>
+        ensures { Reads (readop_word_of p) self result }
+    {
+        let hi = self.cpu_readop(p);
+        let lo = self.cpu_readop(hi.p);
+        let value = word(hi.value, lo.value);
+        Code { value, p: lo.p }
+    }
+
+    // The word at an address, high byte first; the second address does not wrap.
+    pub fn get_mem16(self, addr: u16) -> u16
+        ensures { Reads (mem16_of addr) self result }
+    {
+        let hi = self.read_byte(u32::from(addr));
+        let lo = self.read_byte(u32::from(addr) + 1);
+        word(hi, lo)
+    }
+}
+
+impl Memory<'_> {
+    pub fn view(&self) -> View<'_>
+        ensures { seen result ≡ held self.now }
+    {
+        View {
+            page0: self.page0,
+            page1: self.page1,
         }
     }
 
@@ -80,32 +124,6 @@ impl Memory<'_> {
         } else {
             put_at(self.page1, (addr - 65536) as usize, v);
         }
-    }
-
-    pub fn cpu_readop(&self, p: u16) -> Code<u8>
-        ensures { Reads (readop_of p) self result }
-    {
-        let value = self.read_byte(u32::from(p));
-        let next = p.wrapping_add(1);
-        Code { value, p: next }
-    }
-
-    pub fn readop_word(&self, p: u16) -> Code<u16>
-        ensures { Reads (readop_word_of p) self result }
-    {
-        let hi = self.cpu_readop(p);
-        let lo = self.cpu_readop(hi.p);
-        let value = word(hi.value, lo.value);
-        Code { value, p: lo.p }
-    }
-
-    // The word at an address, high byte first; the second address does not wrap.
-    pub fn get_mem16(&self, addr: u16) -> u16
-        ensures { Reads (mem16_of addr) self result }
-    {
-        let hi = self.read_byte(u32::from(addr));
-        let lo = self.read_byte(u32::from(addr) + 1);
-        word(hi, lo)
     }
 }
 
@@ -127,22 +145,22 @@ pub fn push_word(cpu: Lh5801, memory: &mut Memory, w: u16) -> Lh5801
 }
 
 // A from the stack, and Z from it.
-pub fn pop(cpu: Lh5801, memory: &Memory) -> Lh5801
-    ensures { Reads (pop_of cpu) memory result }
+pub fn pop(cpu: Lh5801, view: View) -> Lh5801
+    ensures { Reads (pop_of cpu) view result }
 {
     let s = cpu.s.wrapping_add(1);
-    let b = memory.read_byte(u32::from(s));
+    let b = view.read_byte(u32::from(s));
     arithmetic::lda(cpu.with_s(s), b)
 }
 
 // High byte first.
-pub fn pop_word(s: u16, memory: &Memory) -> Popped
-    ensures { Reads (pop_word_of s) memory result }
+pub fn pop_word(s: u16, view: View) -> Popped
+    ensures { Reads (pop_word_of s) view result }
 {
     let s1 = s.wrapping_add(1);
-    let hi = memory.read_byte(u32::from(s1));
+    let hi = view.read_byte(u32::from(s1));
     let s2 = s1.wrapping_add(1);
-    let lo = memory.read_byte(u32::from(s2));
+    let lo = view.read_byte(u32::from(s2));
     let w = word(hi, lo);
     Popped { value: w, s: s2 }
 }
@@ -161,7 +179,7 @@ pub fn accept(cpu: Lh5801, memory: &mut Memory, vector: u16) -> Lh5801
     ensures { Changes (accept_of cpu vector) memory result }
 {
     let pushed = push_state(cpu, memory);
-    let at = memory.get_mem16(vector);
+    let at = memory.view().get_mem16(vector);
     pushed.with_p(at).with_is_halted(false)
 }
 

@@ -3,7 +3,8 @@ use Rattle.std.proofs.Common.{◌≡◌, ℕ, Bool, true, false, cond, ◌||◌,
 use mathlib.Core.Bool.{false≢true}
 use Rattle.pages.specs.declared.Memory.{Memory}
 use Rattle.pages.specs.Prog.{Prog, done, read, write, ◌>>=◌}
-use Rattle.pages.specs.Contract.{Does}
+use Rattle.pages.specs.Pages.{Pages}
+use Rattle.pages.specs.Contract.{Does, Gives}
 use Rattle.pages.proofs.Does.{does_then, does_done}
 use Rattle.arithmetic.specs.declared.record.Lh5801.{Lh5801}
 use Rattle.arithmetic.specs.declared.Moved.{Moved}
@@ -40,6 +41,13 @@ pub either_end : {A B : Type 0} (t : Bool) (p : Prog A) (f g : A → B) {l n : M
     → Does (cond t (p >>= (λ k. done (f k))) (p >>= (λ k. done (g k)))) l r n
 either_end true p f g d = d
 either_end false p f g d = d
+
+-- the same of pages that are only read
+pub either_given : {A B : Type 0} (t : Bool) (p : Prog A) (f g : A → B) {q : Pages} {r : B}
+    → Gives (p >>= (λ k. done (cond t (f k) (g k)))) q r
+    → Gives (cond t (p >>= (λ k. done (f k))) (p >>= (λ k. done (g k)))) q r
+either_given true p f g d = d
+either_given false p f g d = d
 
 -- DRR or DRL
 pub either_rotated : (t : Bool) (m : Lh5801) (page : Page) {l p n : Memory} {b : ℕ} {moved : Moved} {u : Unit {0}}

@@ -5,7 +5,7 @@ ghost use Rattle.execution.specs.Instructions.{holds_of, branched_of, branch_of,
 
 use crate::instructions::{Condition, Direction};
 use arithmetic::record::Lh5801;
-use pages::Memory;
+use pages::{Memory, View};
 
 pub fn holds(t: u8, c: Condition) -> bool
     ensures { result ≡ holds_of t c }
@@ -34,10 +34,10 @@ fn branched(cpu: Lh5801, p: u16, offset: u8, direction: Direction) -> Lh5801
     pages::add_state(cpu.with_p(to), states)
 }
 
-pub fn branch(cpu: Lh5801, memory: &Memory, c: Condition, direction: Direction) -> Lh5801
-    ensures { Reads (branch_of cpu c direction) memory result }
+pub fn branch(cpu: Lh5801, view: View, c: Condition, direction: Direction) -> Lh5801
+    ensures { Reads (branch_of cpu c direction) view result }
 {
-    let f = memory.cpu_readop(cpu.p);
+    let f = view.cpu_readop(cpu.p);
     if holds(cpu.t, c) {
         branched(cpu, f.p, f.value, direction)
     } else {
@@ -46,10 +46,10 @@ pub fn branch(cpu: Lh5801, memory: &Memory, c: Condition, direction: Direction) 
 }
 
 // UL is tested before it is counted down.
-pub fn lop(cpu: Lh5801, memory: &Memory) -> Lh5801
-    ensures { Reads (lop_of cpu) memory result }
+pub fn lop(cpu: Lh5801, view: View) -> Lh5801
+    ensures { Reads (lop_of cpu) view result }
 {
-    let f = memory.cpu_readop(cpu.p);
+    let f = view.cpu_readop(cpu.p);
     let l = arithmetic::lop(cpu.u);
     let counted = cpu.with_u(l.u);
     if l.again {
@@ -64,7 +64,7 @@ pub fn vector(cpu: Lh5801, memory: &mut Memory, nr: u8) -> Lh5801
     ensures { Changes (vector_of cpu nr) memory result }
 {
     let pushed = pages::push_word(cpu, memory, cpu.p);
-    let at = memory.get_mem16(0xff00 + u16::from(nr));
+    let at = memory.view().get_mem16(0xff00 + u16::from(nr));
     let t = arithmetic::set_flag(cpu.t, arithmetic::ZF, false);
     pages::add_state(pushed.with_p(at).with_t(t), 13)
 }
@@ -72,7 +72,7 @@ pub fn vector(cpu: Lh5801, memory: &mut Memory, nr: u8) -> Lh5801
 pub fn vector_if(cpu: Lh5801, memory: &mut Memory, c: Condition) -> Lh5801
     ensures { Changes (vector_if_of cpu c) memory result }
 {
-    let f = memory.cpu_readop(cpu.p);
+    let f = memory.view().cpu_readop(cpu.p);
     let next = cpu.with_p(f.p);
     if holds(cpu.t, c) {
         vector(next, memory, f.value)
@@ -81,33 +81,33 @@ pub fn vector_if(cpu: Lh5801, memory: &mut Memory, c: Condition) -> Lh5801
     }
 }
 
-pub fn jmp(cpu: Lh5801, memory: &Memory) -> Lh5801
-    ensures { Reads (jmp_of cpu) memory result }
+pub fn jmp(cpu: Lh5801, view: View) -> Lh5801
+    ensures { Reads (jmp_of cpu) view result }
 {
-    let w = memory.readop_word(cpu.p);
+    let w = view.readop_word(cpu.p);
     cpu.with_p(w.value)
 }
 
 pub fn sjp(cpu: Lh5801, memory: &mut Memory) -> Lh5801
     ensures { Changes (sjp_of cpu) memory result }
 {
-    let w = memory.readop_word(cpu.p);
+    let w = memory.view().readop_word(cpu.p);
     pages::push_word(cpu, memory, w.p).with_p(w.value)
 }
 
-pub fn rtn(cpu: Lh5801, memory: &Memory) -> Lh5801
-    ensures { Reads (rtn_of cpu) memory result }
+pub fn rtn(cpu: Lh5801, view: View) -> Lh5801
+    ensures { Reads (rtn_of cpu) view result }
 {
-    let w = pages::pop_word(cpu.s, memory);
+    let w = pages::pop_word(cpu.s, view);
     cpu.with_p(w.value).with_s(w.s)
 }
 
 // P and then the whole of T.
-pub fn rti(cpu: Lh5801, memory: &Memory) -> Lh5801
-    ensures { Reads (rti_of cpu) memory result }
+pub fn rti(cpu: Lh5801, view: View) -> Lh5801
+    ensures { Reads (rti_of cpu) view result }
 {
-    let w = pages::pop_word(cpu.s, memory);
+    let w = pages::pop_word(cpu.s, view);
     let s = w.s.wrapping_add(1);
-    let t = memory.read_byte(u32::from(s));
+    let t = view.read_byte(u32::from(s));
     cpu.with_p(w.value).with_s(s).with_t(t)
 }

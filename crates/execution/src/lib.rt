@@ -14,7 +14,7 @@ ghost use Rattle.execution.specs.Inputs.{of_keyboard};
 
 use crate::instructions::{Accumulator, Instruction, Listed, Signal};
 use arithmetic::record::Lh5801;
-use pages::{Code, Memory};
+use pages::{Code, Memory, View};
 
 pub mod flow;
 pub mod instructions;
@@ -66,43 +66,43 @@ pub enum Executed {
     Completed(Lh5801),
 }
 
-#[tactic(auto, using(pages::proofs::Does::does_done), unfolding(crate::specs::Instructions::execute_of))]
+#[tactic(auto, using(pages::proofs::Does::does_done, pages::proofs::Does::does_gives), unfolding(crate::specs::Instructions::execute_of))]
 pub fn execute(cpu: Lh5801, memory: &mut Memory, inputs: Inputs, i: Instruction) -> Lh5801
     ensures { Changes (execute_of cpu inputs i) memory result }
 {
     match i {
-        Instruction::Alu(o, place) => operations::alu(cpu, memory, o, place),
+        Instruction::Alu(o, place) => operations::alu(cpu, memory.view(), o, place),
         Instruction::Sta(place) => operations::sta(cpu, memory, place),
         Instruction::Memory(o, place) => operations::memory(cpu, memory, o, place),
-        Instruction::Bii(place) => operations::bii(cpu, memory, place),
+        Instruction::Bii(place) => operations::bii(cpu, memory.view(), place),
         Instruction::Drr(page) => operations::rotate::<true>(cpu, memory, page),
         Instruction::Drl(page) => operations::rotate::<false>(cpu, memory, page),
-        Instruction::Load(h) => operations::load(cpu, memory, h),
-        Instruction::Compare(h) => operations::compare(cpu, memory, h),
+        Instruction::Load(h) => operations::load(cpu, memory.view(), h),
+        Instruction::Compare(h) => operations::compare(cpu, memory.view(), h),
         Instruction::Inc(h) => operations::count_half::<true>(cpu, h),
         Instruction::Dec(h) => operations::count_half::<false>(cpu, h),
         Instruction::IncWord(r) => transfers::count_word::<true>(cpu, r),
         Instruction::DecWord(r) => transfers::count_word::<false>(cpu, r),
         Instruction::Sin(r) => transfers::store_and_count::<true>(cpu, memory, r),
         Instruction::Sde(r) => transfers::store_and_count::<false>(cpu, memory, r),
-        Instruction::Lin(r) => transfers::load_and_count::<true>(cpu, memory, r),
-        Instruction::Lde(r) => transfers::load_and_count::<false>(cpu, memory, r),
-        Instruction::Branch(direction, c) => flow::branch(cpu, memory, c, direction),
-        Instruction::Lop => flow::lop(cpu, memory),
+        Instruction::Lin(r) => transfers::load_and_count::<true>(cpu, memory.view(), r),
+        Instruction::Lde(r) => transfers::load_and_count::<false>(cpu, memory.view(), r),
+        Instruction::Branch(direction, c) => flow::branch(cpu, memory.view(), c, direction),
+        Instruction::Lop => flow::lop(cpu, memory.view()),
         Instruction::VectorIf(c) => flow::vector_if(cpu, memory, c),
         Instruction::Vector(nr) => flow::vector(cpu, memory, nr),
-        Instruction::Jmp => flow::jmp(cpu, memory),
+        Instruction::Jmp => flow::jmp(cpu, memory.view()),
         Instruction::Sjp => flow::sjp(cpu, memory),
-        Instruction::Rtn => flow::rtn(cpu, memory),
-        Instruction::Rti => flow::rti(cpu, memory),
-        Instruction::LoadS => transfers::load_s(cpu, memory),
+        Instruction::Rtn => flow::rtn(cpu, memory.view()),
+        Instruction::Rti => flow::rti(cpu, memory.view()),
+        Instruction::LoadS => transfers::load_s(cpu, memory.view()),
         Instruction::Tin => transfers::tin(cpu, memory),
-        Instruction::Cin => transfers::cin(cpu, memory),
+        Instruction::Cin => transfers::cin(cpu, memory.view()),
         Instruction::OnA(o) => transfers::accumulator(cpu, o, inputs.keyboard),
         Instruction::Sets(s, value) => transfers::signal(cpu, s, value),
-        Instruction::PopWord(r) => transfers::pop_to(cpu, memory, r),
+        Instruction::PopWord(r) => transfers::pop_to(cpu, memory.view(), r),
         Instruction::PushWord(r) => transfers::push_from(cpu, memory, r),
-        Instruction::PopA => pages::pop(cpu, memory),
+        Instruction::PopA => pages::pop(cpu, memory.view()),
         Instruction::PushA => pages::push(cpu, memory, cpu.a),
         Instruction::ToX(w) => transfers::to_x(cpu, w),
         Instruction::FromX(w) => transfers::from_x(cpu, w),
@@ -115,17 +115,17 @@ pub fn execute(cpu: Lh5801, memory: &mut Memory, inputs: Inputs, i: Instruction)
     }
 }
 
-pub fn fetch(p: u16, memory: &Memory) -> Code<Opcode>
-    ensures { Reads (fetch_of p) memory result }
+pub fn fetch(p: u16, view: View) -> Code<Opcode>
+    ensures { Reads (fetch_of p) view result }
 {
-    let first = memory.cpu_readop(p);
+    let first = view.cpu_readop(p);
     if first.value != 0xfd {
         return Code {
             value: Opcode::First(first.value),
             p: first.p,
         };
     }
-    let second = memory.cpu_readop(first.p);
+    let second = view.cpu_readop(first.p);
     Code {
         value: Opcode::AfterFd(second.value),
         p: second.p,
@@ -160,7 +160,7 @@ pub fn instruction(cpu: Lh5801, memory: &mut Memory, inputs: Inputs) -> Result<E
     requires { Ready cpu }
     ensures { Changes (mapped executed_of (step_of cpu inputs)) memory result × DueAgain result }
 {
-    let opcode = fetch(cpu.p, memory);
+    let opcode = fetch(cpu.p, memory.view());
     let Some(listed) = decode(opcode.value) else {
         return Err(Stop::Unlisted(opcode.value));
     };

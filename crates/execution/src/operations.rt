@@ -7,7 +7,7 @@ use crate::instructions::{Change, Operation};
 use crate::places;
 use crate::places::{Half, Page, Place};
 use arithmetic::record::Lh5801;
-use pages::Memory;
+use pages::{Memory, View};
 
 fn operate(cpu: Lh5801, o: Operation, v: u8) -> Lh5801
     ensures { result ≡ operated cpu o v }
@@ -27,10 +27,10 @@ fn operate(cpu: Lh5801, o: Operation, v: u8) -> Lh5801
 }
 
 // A with the byte of a place.
-pub fn alu(cpu: Lh5801, memory: &Memory, o: Operation, place: Place) -> Lh5801
-    ensures { Reads (alu_of cpu o place) memory result }
+pub fn alu(cpu: Lh5801, view: View, o: Operation, place: Place) -> Lh5801
+    ensures { Reads (alu_of cpu o place) view result }
 {
-    let f = places::operand(cpu, memory, place);
+    let f = places::operand(cpu, view, place);
     operate(cpu.with_p(f.p), o, f.value)
 }
 
@@ -38,7 +38,7 @@ pub fn alu(cpu: Lh5801, memory: &Memory, o: Operation, place: Place) -> Lh5801
 fn store(cpu: Lh5801, memory: &mut Memory, place: Place) -> Lh5801
     ensures { Changes (store_of cpu place) memory result }
 {
-    let l = places::locate(cpu, memory, place);
+    let l = places::locate(cpu, memory.view(), place);
     memory.write_byte(l.value, cpu.a);
     cpu.with_p(l.p)
 }
@@ -75,21 +75,21 @@ pub fn changed(t: u8, o: Change, byte: u8, v: u8) -> arithmetic::Sum<u8>
 pub fn memory(cpu: Lh5801, memory: &mut Memory, o: Change, place: Place) -> Lh5801
     ensures { Changes (memory_of cpu o place) memory result }
 {
-    let l = places::locate(cpu, memory, place);
-    let imm = memory.cpu_readop(l.p);
-    let b = memory.read_byte(l.value);
+    let l = places::locate(cpu, memory.view(), place);
+    let imm = memory.view().cpu_readop(l.p);
+    let b = memory.view().read_byte(l.value);
     let s = changed(cpu.t, o, b, imm.value);
     memory.write_byte(l.value, s.value);
     cpu.with_p(imm.p).with_t(s.t)
 }
 
 // The memory byte is read before the immediate.
-pub fn bii(cpu: Lh5801, memory: &Memory, place: Place) -> Lh5801
-    ensures { Reads (bii_of cpu place) memory result }
+pub fn bii(cpu: Lh5801, view: View, place: Place) -> Lh5801
+    ensures { Reads (bii_of cpu place) view result }
 {
-    let l = places::locate(cpu, memory, place);
-    let b = memory.read_byte(l.value);
-    let imm = memory.cpu_readop(l.p);
+    let l = places::locate(cpu, view, place);
+    let b = view.read_byte(l.value);
+    let imm = view.cpu_readop(l.p);
     arithmetic::bit(cpu.with_p(imm.p), b, imm.value)
 }
 
@@ -98,7 +98,7 @@ pub fn rotate<const RIGHT: bool>(cpu: Lh5801, memory: &mut Memory, page: Page) -
     ensures { Changes (if RIGHT then drr_of cpu page else drl_of cpu page) memory result }
 {
     let at = places::paged(cpu.x, page);
-    let b = memory.read_byte(at);
+    let b = memory.view().read_byte(at);
     let moved = if RIGHT {
         arithmetic::drr(cpu.a, b)
     } else {
@@ -109,18 +109,18 @@ pub fn rotate<const RIGHT: bool>(cpu: Lh5801, memory: &mut Memory, page: Page) -
 }
 
 // LDI: a half from the code.
-pub fn load(cpu: Lh5801, memory: &Memory, h: Half) -> Lh5801
-    ensures { Reads (load_of cpu h) memory result }
+pub fn load(cpu: Lh5801, view: View, h: Half) -> Lh5801
+    ensures { Reads (load_of cpu h) view result }
 {
-    let f = memory.cpu_readop(cpu.p);
+    let f = view.cpu_readop(cpu.p);
     places::set_half(cpu.with_p(f.p), h, f.value)
 }
 
 // CPI: a half against the code.
-pub fn compare(cpu: Lh5801, memory: &Memory, h: Half) -> Lh5801
-    ensures { Reads (compare_of cpu h) memory result }
+pub fn compare(cpu: Lh5801, view: View, h: Half) -> Lh5801
+    ensures { Reads (compare_of cpu h) view result }
 {
-    let f = memory.cpu_readop(cpu.p);
+    let f = view.cpu_readop(cpu.p);
     let left = places::get_half(cpu, h);
     arithmetic::cpa(cpu.with_p(f.p), left, f.value)
 }

@@ -4,7 +4,7 @@ ghost use Rattle.pages.specs.Contract.{Reads};
 ghost use Rattle.execution.specs.Places.{word_in, with_word, half_in, with_half, address_of, locate_of, operand_of};
 
 use arithmetic::record::Lh5801;
-use pages::{Code, Memory};
+use pages::{Code, View};
 
 #[derive(Clone, Copy)]
 pub enum Register {
@@ -90,9 +90,9 @@ pub fn paged(addr: u16, page: Page) -> u32
 
 // The address of a place in memory, and P after it was found; a half and a byte in the code have none, and no instruction
 // asks for it.
-#[tactic(auto, using(pages::proofs::Does::does_done, pages::proofs::Does::does_then), unfolding(crate::specs::Places::locate_of))]
-pub fn locate(cpu: Lh5801, memory: &Memory, place: Place) -> Code<u32>
-    ensures { Reads (locate_of cpu place) memory result }
+#[tactic(auto, using(pages::proofs::Does::gives_done, pages::proofs::Does::gives_then), unfolding(crate::specs::Places::locate_of))]
+pub fn locate(cpu: Lh5801, view: View, place: Place) -> Code<u32>
+    ensures { Reads (locate_of cpu place) view result }
 {
     match place {
         Place::Pointer(page, r) => Code {
@@ -100,7 +100,7 @@ pub fn locate(cpu: Lh5801, memory: &Memory, place: Place) -> Code<u32>
             p: cpu.p,
         },
         Place::Fixed(page) => {
-            let w = memory.readop_word(cpu.p);
+            let w = view.readop_word(cpu.p);
             Code {
                 value: paged(w.value, page),
                 p: w.p,
@@ -111,9 +111,9 @@ pub fn locate(cpu: Lh5801, memory: &Memory, place: Place) -> Code<u32>
 }
 
 // The byte of a place, and P after it was read.
-#[tactic(auto, using(pages::proofs::Does::does_done, pages::proofs::Does::does_then), unfolding(crate::specs::Places::operand_of))]
-pub fn operand(cpu: Lh5801, memory: &Memory, place: Place) -> Code<u8>
-    ensures { Reads (operand_of cpu place) memory result }
+#[tactic(auto, using(pages::proofs::Does::gives_done, pages::proofs::Does::gives_then), unfolding(crate::specs::Places::operand_of))]
+pub fn operand(cpu: Lh5801, view: View, place: Place) -> Code<u8>
+    ensures { Reads (operand_of cpu place) view result }
 {
     match place {
         Place::InHalf(h) => Code {
@@ -121,16 +121,16 @@ pub fn operand(cpu: Lh5801, memory: &Memory, place: Place) -> Code<u8>
             p: cpu.p,
         },
         Place::Pointer(page, r) => Code {
-            value: memory.read_byte(paged(get_word(cpu, r), page)),
+            value: view.read_byte(paged(get_word(cpu, r), page)),
             p: cpu.p,
         },
         Place::Fixed(page) => {
-            let w = memory.readop_word(cpu.p);
+            let w = view.readop_word(cpu.p);
             Code {
-                value: memory.read_byte(paged(w.value, page)),
+                value: view.read_byte(paged(w.value, page)),
                 p: w.p,
             }
         }
-        Place::InCode => memory.cpu_readop(cpu.p),
+        Place::InCode => view.cpu_readop(cpu.p),
     }
 }

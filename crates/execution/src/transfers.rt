@@ -8,7 +8,7 @@ use crate::instructions::{Accumulator, Signal, Word};
 use crate::places;
 use crate::places::Register;
 use arithmetic::record::Lh5801;
-use pages::Memory;
+use pages::{Memory, View};
 
 // A pair, up or down by one.
 #[tactic(auto, unfolding(crate::specs::Instructions::inc_word_of, crate::specs::Instructions::dec_word_of))]
@@ -34,19 +34,19 @@ pub fn store_and_count<const UP: bool>(cpu: Lh5801, memory: &mut Memory, r: Regi
 }
 
 // LIN and LDE: A from the byte that a pair points to, and the pair up or down.
-pub fn load_and_count<const UP: bool>(cpu: Lh5801, memory: &Memory, r: Register) -> Lh5801
-    ensures { Reads (if UP then lin_of cpu r else lde_of cpu r) memory result }
+pub fn load_and_count<const UP: bool>(cpu: Lh5801, view: View, r: Register) -> Lh5801
+    ensures { Reads (if UP then lin_of cpu r else lde_of cpu r) view result }
 {
     let w = places::get_word(cpu, r);
-    let b = memory.read_byte(u32::from(w));
+    let b = view.read_byte(u32::from(w));
     count_word::<UP>(arithmetic::lda(cpu, b), r)
 }
 
 // S from the code.
-pub fn load_s(cpu: Lh5801, memory: &Memory) -> Lh5801
-    ensures { Reads (load_sOf cpu) memory result }
+pub fn load_s(cpu: Lh5801, view: View) -> Lh5801
+    ensures { Reads (load_sOf cpu) view result }
 {
-    let w = memory.readop_word(cpu.p);
+    let w = view.readop_word(cpu.p);
     cpu.with_s(w.value).with_p(w.p)
 }
 
@@ -54,7 +54,7 @@ pub fn load_s(cpu: Lh5801, memory: &Memory) -> Lh5801
 pub fn tin(cpu: Lh5801, memory: &mut Memory) -> Lh5801
     ensures { Changes (tin_of cpu) memory result }
 {
-    let b = memory.read_byte(u32::from(cpu.x));
+    let b = memory.view().read_byte(u32::from(cpu.x));
     memory.write_byte(u32::from(cpu.y), b);
     let x = cpu.x.wrapping_add(1);
     let y = cpu.y.wrapping_add(1);
@@ -62,10 +62,10 @@ pub fn tin(cpu: Lh5801, memory: &mut Memory) -> Lh5801
 }
 
 // A against the byte at X, and X moves up.
-pub fn cin(cpu: Lh5801, memory: &Memory) -> Lh5801
-    ensures { Reads (cin_of cpu) memory result }
+pub fn cin(cpu: Lh5801, view: View) -> Lh5801
+    ensures { Reads (cin_of cpu) view result }
 {
-    let b = memory.read_byte(u32::from(cpu.x));
+    let b = view.read_byte(u32::from(cpu.x));
     let x = cpu.x.wrapping_add(1);
     arithmetic::cpa(cpu.with_x(x), cpu.a, b)
 }
@@ -116,10 +116,10 @@ pub fn signal(cpu: Lh5801, s: Signal, value: bool) -> Lh5801
 }
 
 // A pair from the stack.
-pub fn pop_to(cpu: Lh5801, memory: &Memory, r: Register) -> Lh5801
-    ensures { Reads (pop_to_of cpu r) memory result }
+pub fn pop_to(cpu: Lh5801, view: View, r: Register) -> Lh5801
+    ensures { Reads (pop_to_of cpu r) view result }
 {
-    let w = pages::pop_word(cpu.s, memory);
+    let w = pages::pop_word(cpu.s, view);
     places::set_word(cpu.with_s(w.s), r, w.value)
 }
 

@@ -1,10 +1,10 @@
-use Rattle.pages.proofs.Does.{does_then, does_done}
+use Rattle.pages.proofs.Does.{gives_then, gives_done}
 use Rattle.execution.specs.Instructions.{rti_of}
 use Rattle.execution.proofs.flow.rti.Goals as goal
 
 pub returns : goal.returns
 unfolding rti_of
 returns c =
-    does_then _ c.pop_word-w.ensures
-    (does_then _ (rw c.from.ensures at c.read_byte-t.ensures)
-    (does_done (rw (c.with_t.ensures, c.with_s.ensures, c.with_p.ensures))))
+    gives_then _ c.pop_word-w.ensures
+    (gives_then _ (rw c.from.ensures at c.read_byte-t.ensures)
+    (gives_done (rw (c.with_t.ensures, c.with_s.ensures, c.with_p.ensures))))

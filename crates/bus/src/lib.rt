@@ -15,7 +15,7 @@ use execution::instructions::Condition;
 use execution::places::Place;
 use execution::shapes::{Action, Shape};
 use execution::{Opcode, flow, operations, places};
-use pages::Memory;
+use pages::View;
 
 mod tables;
 
@@ -35,10 +35,10 @@ enum Kind {
 
 // What an address reads after v was written at s, where it read b before: a write that is not stored changes nothing.
 #[tactic(auto, using(crate::proofs::Written::after_write_lem))]
-fn after_write(memory: &Memory, s: u16, v: u8, addr: u32, b: u8) -> u8
-    ensures { result ≡ after_write (as_shared memory) s v addr b }
+fn after_write(view: View, s: u16, v: u8, addr: u32, b: u8) -> u8
+    ensures { result ≡ after_write (as_shared view) s v addr b }
 {
-    let stored = usize::from(s) < memory.page0.len();
+    let stored = usize::from(s) < view.page0.len();
     if stored & (addr == u32::from(s)) {
         v
     } else {
@@ -47,12 +47,12 @@ fn after_write(memory: &Memory, s: u16, v: u8, addr: u32, b: u8) -> u8
 }
 
 // What it reads after the word w was pushed, where S was s.
-fn after_push_word(memory: &Memory, s: u16, w: u16, addr: u32, b: u8) -> u8
-    ensures { result ≡ after_push_word (as_shared memory) s w addr b }
+fn after_push_word(view: View, s: u16, w: u16, addr: u32, b: u8) -> u8
+    ensures { result ≡ after_push_word (as_shared view) s w addr b }
 {
     let [high, low] = w.to_be_bytes();
-    let first = after_write(memory, s, low, addr, b);
-    after_write(memory, s.wrapping_sub(1), high, addr, first)
+    let first = after_write(view, s, low, addr, b);
+    after_write(view, s.wrapping_sub(1), high, addr, first)
 }
 
 impl BusLog<'_> {
@@ -72,21 +72,21 @@ impl BusLog<'_> {
 
     // A read, by the byte that the address reads before the step.
     #[tactic(auto, using(pages::proofs::Does::read_value))]
-    fn read(&mut self, memory: &Memory, addr: u32) -> u8
-        ensures { Notes (read_of addr (byte_at (as_shared memory) addr) ∷ []) self × (result ≡ byte_at (as_shared memory) addr) }
+    fn read(&mut self, view: View, addr: u32) -> u8
+        ensures { Notes (read_of addr (byte_at (as_shared view) addr) ∷ []) self × (result ≡ byte_at (as_shared view) addr) }
     {
-        let byte = memory.read_byte(addr);
+        let byte = view.read_byte(addr);
         self.note(Kind::Read, addr, byte);
         byte
     }
 
     // So many bytes, one after the other.
-    fn bytes(&mut self, memory: &Memory, from: u16, k: u8)
-        ensures { Notes (bytes_from (as_shared memory) from k) self }
+    fn bytes(&mut self, view: View, from: u16, k: u8)
+        ensures { Notes (bytes_from (as_shared view) from k) self }
     {
         let mut at = from;
         for _ in 0..k {
-            self.read(memory, u32::from(at));
+            self.read(view, u32::from(at));
             at = at.wrapping_add(1);
         }
     }
@@ -101,39 +101,39 @@ impl BusLog<'_> {
     }
 
     // A word pushed, and then the vector at an address read, which held high and low before the push.
-    fn push_and_vector(&mut self, memory: &Memory, s: u16, w: u16, vector: u16, high: u8, low: u8)
-        ensures { Notes (push_and_vector_accesses (as_shared memory) s w vector high low) self }
+    fn push_and_vector(&mut self, view: View, s: u16, w: u16, vector: u16, high: u8, low: u8)
+        ensures { Notes (push_and_vector_accesses (as_shared view) s w vector high low) self }
     {
         let addr = u32::from(vector);
         self.push_word(s, w);
-        let first = after_push_word(memory, s, w, addr, high);
+        let first = after_push_word(view, s, w, addr, high);
         self.note(Kind::Read, addr, first);
-        let second = after_push_word(memory, s, w, addr + 1, low);
+        let second = after_push_word(view, s, w, addr + 1, low);
         self.note(Kind::Read, addr + 1, second);
     }
 
     // A vector taken, by its number.
-    fn vector(&mut self, memory: &Memory, s: u16, w: u16, nr: u8)
-        ensures { Notes (vector_accesses (as_shared memory) s w nr) self }
+    fn vector(&mut self, view: View, s: u16, w: u16, nr: u8)
+        ensures { Notes (vector_accesses (as_shared view) s w nr) self }
     {
         let vector = 0xff00 + u16::from(nr);
-        let high = memory.read_byte(u32::from(vector));
-        let low = memory.read_byte(u32::from(vector) + 1);
-        self.push_and_vector(memory, s, w, vector, high, low);
+        let high = view.read_byte(u32::from(vector));
+        let low = view.read_byte(u32::from(vector) + 1);
+        self.push_and_vector(view, s, w, vector, high, low);
     }
 
     // What is done at an address; p is the address of the code after the opcode and the word.
-    fn at(&mut self, cpu: Lh5801, memory: &Memory, action: Action, addr: u32, p: u16)
-        ensures { Notes (accesses_at cpu (as_shared memory) action addr p) self }
+    fn at(&mut self, cpu: Lh5801, view: View, action: Action, addr: u32, p: u16)
+        ensures { Notes (accesses_at cpu (as_shared view) action addr p) self }
     {
         match action {
             Action::Read => {
-                self.read(memory, addr);
+                self.read(view, addr);
             }
             Action::StoreA => self.note(Kind::Write, addr, cpu.a),
             Action::Update(change) => {
-                let v = self.read(memory, u32::from(p));
-                let b = self.read(memory, addr);
+                let v = self.read(view, u32::from(p));
+                let b = self.read(view, addr);
                 self.note(
                     Kind::Write,
                     addr,
@@ -141,114 +141,114 @@ impl BusLog<'_> {
                 );
             }
             Action::Test => {
-                self.read(memory, addr);
-                self.read(memory, u32::from(p));
+                self.read(view, addr);
+                self.read(view, u32::from(p));
             }
             Action::RotateRight => {
-                let b = self.read(memory, addr);
+                let b = self.read(view, addr);
                 self.note(Kind::Write, addr, arithmetic::drr(cpu.a, b).byte);
             }
             Action::RotateLeft => {
-                let b = self.read(memory, addr);
+                let b = self.read(view, addr);
                 self.note(Kind::Write, addr, arithmetic::drl(cpu.a, b).byte);
             }
         }
     }
 
     // At a place in memory: its word in the code is read first, where it has one.
-    fn place(&mut self, cpu: Lh5801, memory: &Memory, action: Action, place: Place)
-        ensures { Notes (place_accesses cpu (as_shared memory) action place) self }
+    fn place(&mut self, cpu: Lh5801, view: View, action: Action, place: Place)
+        ensures { Notes (place_accesses cpu (as_shared view) action place) self }
     {
         if let Place::Fixed(_) = place {
-            self.bytes(memory, cpu.p, 2);
+            self.bytes(view, cpu.p, 2);
         }
-        let l = places::locate(cpu, memory, place);
-        self.at(cpu, memory, action, l.value, l.p);
+        let l = places::locate(cpu, view, place);
+        self.at(cpu, view, action, l.value, l.p);
     }
 
     // The vector's number in the code, and where the condition holds, the vector.
-    fn vector_if(&mut self, cpu: Lh5801, memory: &Memory, c: Condition)
-        ensures { Notes (vector_if_accesses cpu (as_shared memory) c) self }
+    fn vector_if(&mut self, cpu: Lh5801, view: View, c: Condition)
+        ensures { Notes (vector_if_accesses cpu (as_shared view) c) self }
     {
-        let nr = self.read(memory, u32::from(cpu.p));
+        let nr = self.read(view, u32::from(cpu.p));
         if flow::holds(cpu.t, c) {
-            self.vector(memory, cpu.s, cpu.p.wrapping_add(1), nr);
+            self.vector(view, cpu.s, cpu.p.wrapping_add(1), nr);
         }
     }
 
     // What follows the opcode; P stands after the opcode.
-    fn shape(&mut self, cpu: Lh5801, memory: &Memory, shape: Shape)
-        ensures { Notes (shape_accesses cpu (as_shared memory) shape) self }
+    fn shape(&mut self, cpu: Lh5801, view: View, shape: Shape)
+        ensures { Notes (shape_accesses cpu (as_shared view) shape) self }
     {
         match shape {
-            Shape::At(action, place) => self.place(cpu, memory, action, place),
-            Shape::Operand(k) => self.bytes(memory, cpu.p, k),
-            Shape::Popped(k) => self.bytes(memory, cpu.s.wrapping_add(1), k),
+            Shape::At(action, place) => self.place(cpu, view, action, place),
+            Shape::Operand(k) => self.bytes(view, cpu.p, k),
+            Shape::Popped(k) => self.bytes(view, cpu.s.wrapping_add(1), k),
             Shape::PushA => self.note(Kind::Write, u32::from(cpu.s), cpu.a),
             Shape::PushWord(r) => self.push_word(cpu.s, places::get_word(cpu, r)),
             Shape::Tin => {
-                let b = self.read(memory, u32::from(cpu.x));
+                let b = self.read(view, u32::from(cpu.x));
                 self.note(Kind::Write, u32::from(cpu.y), b);
             }
             Shape::Sjp => {
-                self.bytes(memory, cpu.p, 2);
+                self.bytes(view, cpu.p, 2);
                 self.push_word(cpu.s, cpu.p.wrapping_add(2));
             }
-            Shape::Vector(nr) => self.vector(memory, cpu.s, cpu.p, nr),
-            Shape::VectorIf(c) => self.vector_if(cpu, memory, c),
+            Shape::Vector(nr) => self.vector(view, cpu.s, cpu.p, nr),
+            Shape::VectorIf(c) => self.vector_if(cpu, view, c),
         }
     }
 
     // The opcode's own bytes.
-    fn opcode(&mut self, memory: &Memory, p: u16, opcode: Opcode)
-        ensures { Notes (opcode_accesses (as_shared memory) p opcode) self }
+    fn opcode(&mut self, view: View, p: u16, opcode: Opcode)
+        ensures { Notes (opcode_accesses (as_shared view) p opcode) self }
     {
         match opcode {
-            Opcode::First(_) => self.bytes(memory, p, 1),
-            Opcode::AfterFd(_) => self.bytes(memory, p, 2),
+            Opcode::First(_) => self.bytes(view, p, 1),
+            Opcode::AfterFd(_) => self.bytes(view, p, 2),
         }
     }
 
     // The instruction at P; nothing where it is unlisted.
-    fn instruction(&mut self, cpu: Lh5801, memory: &Memory)
-        ensures { Notes (instruction_accesses cpu (as_shared memory)) self }
+    fn instruction(&mut self, cpu: Lh5801, view: View)
+        ensures { Notes (instruction_accesses cpu (as_shared view)) self }
     {
-        let o = execution::fetch(cpu.p, memory);
+        let o = execution::fetch(cpu.p, view);
         match tables::shape_of(o.value) {
             None => {}
             Some(shape) => {
-                self.opcode(memory, cpu.p, o.value);
-                self.shape(cpu.with_p(o.p), memory, shape);
+                self.opcode(view, cpu.p, o.value);
+                self.shape(cpu.with_p(o.p), view, shape);
             }
         }
     }
 
     // An accepted interrupt: T pushed, P pushed, and the vector read.
-    fn accept(&mut self, cpu: Lh5801, memory: &Memory, vector: u16)
-        ensures { Notes (accept_accesses cpu (as_shared memory) vector) self }
+    fn accept(&mut self, cpu: Lh5801, view: View, vector: u16)
+        ensures { Notes (accept_accesses cpu (as_shared view) vector) self }
     {
         let addr = u32::from(vector);
         self.note(Kind::Write, u32::from(cpu.s), cpu.t);
-        let high = after_write(memory, cpu.s, cpu.t, addr, memory.read_byte(addr));
-        let low = after_write(memory, cpu.s, cpu.t, addr + 1, memory.read_byte(addr + 1));
-        self.push_and_vector(memory, cpu.s.wrapping_sub(1), cpu.p, vector, high, low);
+        let high = after_write(view, cpu.s, cpu.t, addr, view.read_byte(addr));
+        let low = after_write(view, cpu.s, cpu.t, addr + 1, view.read_byte(addr + 1));
+        self.push_and_vector(view, cpu.s.wrapping_sub(1), cpu.p, vector, high, low);
     }
 }
 
 // The entries of the coming step's accesses are appended, if the step is completed; none if it stops. The step's inputs do not matter.
-pub fn note_step(cpu: Lh5801, memory: &Memory, log: &mut BusLog)
+pub fn note_step(cpu: Lh5801, view: View, log: &mut BusLog)
     requires { log.old.used ≤ most }
-    ensures { AppendsStep cpu memory log }
+    ensures { AppendsStep cpu view log }
 {
     if cpu.bf & !cpu.ir0 {
         let enabled = arithmetic::get_flag(cpu.t, arithmetic::IE);
         if (cpu.is_timer_reached | cpu.ir1) & enabled {
-            log.accept(cpu, memory, 0xfffa);
+            log.accept(cpu, view, 0xfffa);
         } else if cpu.ir2 & enabled {
-            log.accept(cpu, memory, 0xfff8);
+            log.accept(cpu, view, 0xfff8);
         } else if !cpu.is_halted {
             // A halted step waits or stops, with no access.
-            log.instruction(cpu, memory);
+            log.instruction(cpu, view);
         }
     }
 }

@@ -5,7 +5,8 @@ use Rattle.arithmetic.specs.declared.record.Lh5801.{Lh5801}
 use Rattle.pages.specs.Prog.{Access, read_of, write_of, exec}
 use Rattle.std.specs.Borrow.{MutBor}
 use denote.Triple.Both.{Both}
-use Rattle.pages.specs.Contract.{SharedMemory, as_shared}
+use Rattle.pages.specs.declared.View.{View}
+use Rattle.pages.specs.Contract.{as_shared}
 use Rattle.execution.specs.declared.Inputs.{Inputs}
 use Rattle.execution.specs.Step.{step_of}
 use Rattle.execution.specs.Completed.{completed_accesses}
@@ -43,9 +44,9 @@ access_of Read a b = read_of a b
 access_of Write a b = write_of a b
 
 -- the coming step's accesses, if it is completed, whatever the inputs
-abbrev pub StepAccesses : (Lh5801 → SharedMemory → Inputs → List Access)
-StepAccesses m memory inputs = completed_accesses (exec (step_of m inputs) (as_shared memory))
+abbrev pub StepAccesses : (Lh5801 → Both View View → Inputs → List Access)
+StepAccesses m view inputs = completed_accesses (exec (step_of m inputs) (as_shared view))
 
 -- they are appended to a log
-abbrev pub AppendsStep : Lh5801 → SharedMemory → LentLog → Type 0
-AppendsStep m memory log = (inputs : Inputs) → Appends (StepAccesses m memory inputs) log
+abbrev pub AppendsStep : Lh5801 → Both View View → LentLog → Type 0
+AppendsStep m view log = (inputs : Inputs) → Appends (StepAccesses m view inputs) log

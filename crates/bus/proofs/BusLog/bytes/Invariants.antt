@@ -1,6 +1,6 @@
 use Rattle.std.proofs.Common.{◌≡◌, ◌-◌, List, ◌++◌}
 use Rattle.pages.specs.Prog.{Access}
-use Rattle.pages.specs.Contract.{held}
+use Rattle.pages.specs.Contract.{seen}
 use Rattle.execution.specs.Code.Shapes.{bytes_from}
 use Rattle.bus.specs.Code.Notes.{Grows}
 use Rattle.bus.proofs.BusLog.bytes.Given as goal
@@ -9,4 +9,4 @@ use Rattle.bus.proofs.BusLog.bytes.Given as goal
 abbrev pub invariant-loop : goal.invariant-loop
 invariant-loop l =
     (done : List Access) × Grows done l.initial.self l.self
-    × (done ++ bytes_from (held l.memory) l.at (l.k - l.counter) ≡ bytes_from (held l.memory) l.from l.k)
+    × (done ++ bytes_from (seen l.view) l.at (l.k - l.counter) ≡ bytes_from (seen l.view) l.from l.k)

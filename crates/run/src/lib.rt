@@ -3,7 +3,7 @@
 
 ghost use Rattle.std.specs.Prelude.{◌≡◌, ◌+◌, ◌<◌, ◌≤◌, true, false};
 ghost use Rattle.pages.specs.Pages.{pages};
-ghost use Rattle.pages.specs.Contract.{at_entry, as_shared};
+ghost use Rattle.pages.specs.Contract.{at_entry, held};
 ghost use Rattle.execution.specs.Code.Due.{due_of};
 ghost use Rattle.run.specs.Acceptance.{end_number, end_byte, not_accepted};
 ghost use Rattle.run.specs.BusLog.{held_log, free_of, log_full};
@@ -16,7 +16,7 @@ ghost use Rattle.run.specs.Code.Coming.{NotesComing};
 use arithmetic::record::Lh5801;
 use bus::BusLog;
 use execution::{Executed, Inputs, Opcode, Stop};
-use pages::Memory;
+use pages::{Memory, View};
 
 pub mod campaign_file;
 pub mod line;
@@ -218,13 +218,13 @@ fn log_full(log: &BusLog) -> bool
 }
 
 // Before a step of a call with a log: is the log full (11)? If not, the coming step's accesses are appended, none if it will stop.
-fn note_coming(cpu: Lh5801, memory: &Memory, log: &mut BusLog) -> bool
-    ensures { NotesComing cpu memory log.old result log.new }
+fn note_coming(cpu: Lh5801, view: View, log: &mut BusLog) -> bool
+    ensures { NotesComing cpu view log.old result log.new }
 {
     if log_full(log) {
         return true;
     }
-    bus::note_step(cpu, memory, log);
+    bus::note_step(cpu, view, log);
     false
 }
 
@@ -258,7 +258,7 @@ fn logged_steps(cpu: Lh5801, memory: &mut Memory, log: &mut BusLog, settings: Se
     };
     while all.steps < settings.limit {
         // A record of its own is lent to the look: the loop's would stand in memory.
-        if note_coming(unmoved(all.cpu, all.cpu), memory, log) {
+        if note_coming(unmoved(all.cpu, all.cpu), memory.view(), log) {
             return Answer {
                 end: End::LogFull,
                 ..all
@@ -276,7 +276,7 @@ fn logged_steps(cpu: Lh5801, memory: &mut Memory, log: &mut BusLog, settings: Se
 // Why a call is not accepted, if so: the first of the conditions that holds.
 #[tactic(auto, unfolding(crate::specs::Acceptance::not_accepted))]
 fn not_accepted(cpu: Lh5801, memory: &Memory, settings: Settings) -> Option<End>
-    ensures { result ≡ not_accepted settings cpu (as_shared memory) }
+    ensures { result ≡ not_accepted settings cpu (held memory.now) }
 {
     if 65536 < memory.page0.len() {
         return Some(End::Page0Length);

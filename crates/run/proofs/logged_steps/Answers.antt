@@ -24,14 +24,14 @@ returns-then-step-eq0 c =
     let seen = c.note_coming.ensures in
     rw c.total-all.ensures
     (logging_stops c.loop-all.invariant c.steps_of-step.ensures c.loop-all-test.true (sym seen.full_is ∙ c.if-note_coming.false)
-    (rw (c.unmoved.ensures, unmoved_same c.loop-all.all.cpu) at (seen.noted c.if-note_coming.false c.args.settings.inputs)) c.if-step-eq0.true)
+    (rw (c.view.ensures, c.unmoved.ensures, unmoved_same c.loop-all.all.cpu) at (seen.noted c.if-note_coming.false c.args.settings.inputs)) c.if-step-eq0.true)
 
 pub loop-all-preserved : goal.loop-all-preserved
 loop-all-preserved c =
     let seen = c.note_coming.ensures in
     rw c.total-all.ensures
     (logging_next c.loop-all.invariant c.steps_of-step.ensures c.loop-all-test.true (sym seen.full_is ∙ c.if-note_coming.false)
-    (rw (c.unmoved.ensures, unmoved_same c.loop-all.all.cpu) at (seen.noted c.if-note_coming.false c.args.settings.inputs)) c.if-step-eq0.false)
+    (rw (c.view.ensures, c.unmoved.ensures, unmoved_same c.loop-all.all.cpu) at (seen.noted c.if-note_coming.false c.args.settings.inputs)) c.if-step-eq0.false)
 
 pub returns : goal.returns
 returns c = logging_done c.loop-all.invariant c.loop-all-test.false

@@ -50,7 +50,7 @@ pub record Kept (s : Settings) (first : Lh5801) (l : Memory) (steps : ℕ) (m : 
 pub record Executing (s : Settings) (done : ℕ) (first : Lh5801) (l : Memory) (steps : ℕ) (m : Lh5801) (n : Memory) : Type 0 where
   pub more : ℕ
   pub steps_are : steps ≡ done + more
-  pub room : steps < s.limit
+  pub within : steps ≤ s.limit
   pub kept : Kept s first l more m n
   pub ready : Ready m
 
@@ -167,23 +167,23 @@ executing_start {s} m {l = l} due room moved =
     (record {
       more = 0;
       steps_are = omega arith;
-      room = room;
+      within = omega (arith, room);
       kept = record { going = at_start_lem s.inputs s.limit (reached_of m) (held l); lent = lent_same };
       ready = reached_ready m due;
     })
 
-module _ {s : Settings} {done : ℕ} {first : Lh5801} {l : Memory} {steps : ℕ} {k : Lh5801} {n : Memory} (g : Executing s done first l steps k n) where
+module _ {s : Settings} {done : ℕ} {first : Lh5801} {l : Memory} {steps : ℕ} {k : Lh5801} {n : Memory} (g : Executing s done first l steps k n) (room : steps < s.limit) where
   -- one more instruction
   kept_on : {j : Lh5801} {o : Memory} → Does (mapped outcome_of (step_of k s.inputs)) n (Ok j) o → Kept s first l (g.more + 1) j o
   kept_on d =
-      record { going = go_on g.kept.going (omega (arith, g.steps_are, g.room)) (outcome s.inputs k d); lent = lent_then g.kept.lent d.lent }
+      record { going = go_on g.kept.going (omega (arith, g.steps_are, room)) (outcome s.inputs k d); lent = lent_then g.kept.lent d.lent }
 
-  pub executing_next : {j : Lh5801} {o : Memory} → Does (mapped outcome_of (step_of k s.inputs)) n (Ok j) o → steps + 1 < s.limit → Ready j
+  pub executing_next : {j : Lh5801} {o : Memory} → Does (mapped outcome_of (step_of k s.inputs)) n (Ok j) o → Ready j
       → Executing s done first l (steps + 1) j o
-  executing_next d h r = record { more = g.more + 1; steps_are = omega (arith, g.steps_are); room = h; kept = kept_on d; ready = r }
+  executing_next d r = record { more = g.more + 1; steps_are = omega (arith, g.steps_are); within = omega (arith, room); kept = kept_on d; ready = r }
 
   module _ {m : Lh5801} (due : due_of m ≡ true) (moved : first ≡ reached_of m) where
-    -- the loop ends after it
+    -- nothing else is due after it
     pub executing_ends : {j : Lh5801} {o : Memory} → Does (mapped outcome_of (step_of k s.inputs)) n (Ok j) o → LeadsIn s done m l (led (steps + 1) j None) o
     executing_ends d =
         let t = kept_on d in
@@ -191,7 +191,7 @@ module _ {s : Settings} {done : ℕ} {first : Lh5801} {l : Memory} {steps : ℕ}
           leads = record {
             more = g.more + 1;
             steps = omega (arith, g.steps_are);
-            within = omega (arith, g.room);
+            within = omega (arith, room);
             states = t.going.states;
             bus = t.going.bus;
             reached = reaches_from (same_step s.inputs m due moved) (omega arith) t.going.reached;
@@ -211,11 +211,11 @@ module _ {s : Settings} {done : ℕ} {first : Lh5801} {l : Memory} {steps : ℕ}
               (record {
                 more = g.more;
                 steps = g.steps_are;
-                within = omega (arith, g.room);
+                within = omega (arith, room);
                 states = g.kept.going.states;
                 bus = g.kept.going.bus;
                 reached = reaches_from (same_step s.inputs m due moved) (omega (arith, z, g.steps_are)) g.kept.going.reached;
-                ahead = (g.room, t.0);
+                ahead = (room, t.0);
               });
           lent = lent_then g.kept.lent d.lent;
         }
@@ -232,9 +232,26 @@ module _ {s : Settings} {done : ℕ} {first : Lh5801} {l : Memory} {steps : ℕ}
         subst (λ (p : Pages). Outcome s.inputs m p (Err x) (held o)) r.1
         (record { value = t.value ∙ ap (λ y. outcome_of (exec y (held n)).answer) z; pages = ap (λ y. (exec y (held n)).pages) (sym z) ∙ t.pages }) in
         record {
-          leads = rw (u ∙ ap (λ y. unmoved_of y m) (r.0 ∙ moved) ∙ moved_back m, e) (stop_leads (omega (arith, g.room)) i);
+          leads = rw (u ∙ ap (λ y. unmoved_of y m) (r.0 ∙ moved) ∙ moved_back m, e) (stop_leads (omega (arith, room)) i);
           lent = lent_then g.kept.lent d.lent;
         }
+
+-- the limit is reached: all the steps from there on are instructions
+pub executing_all : {s : Settings} {done : ℕ} {m first : Lh5801} {l : Memory} {steps : ℕ} {k : Lh5801} {n : Memory} → Executing s done first l steps k n
+    → due_of m ≡ true → first ≡ reached_of m → s.limit ≤ steps → done < s.limit → LeadsIn s done m l (led s.limit k None) n
+executing_all {s} {m = m} g due moved h room =
+    record {
+      leads = record {
+        more = g.more;
+        steps = omega (arith, g.steps_are, g.within);
+        within = omega arith;
+        states = g.kept.going.states;
+        bus = g.kept.going.bus;
+        reached = reaches_from (same_step s.inputs m due moved) (omega (arith, g.steps_are)) g.kept.going.reached;
+        ahead = room;
+      };
+      lent = g.kept.lent;
+    }
 
 -- the loop over stretches
 pub kept_start : {s : Settings} {m : Lh5801} {l : Memory} → Kept s m l 0 m l

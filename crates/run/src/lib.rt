@@ -119,20 +119,9 @@ fn instructions(cpu: Lh5801, memory: &mut Memory, settings: Settings, done: u32)
     ensures { LeadsIn settings done cpu memory.entry.now result memory.exit.now }
 {
     let mut current = execution::reached(cpu);
-    let mut steps: u32 = done;
-    loop {
+    for steps in done..settings.limit {
         match execution::instruction(current, memory, settings.inputs) {
-            Ok(Executed::Again(next)) => {
-                current = next;
-                steps = steps + 1;
-                if settings.limit <= steps {
-                    return Led {
-                        steps,
-                        cpu: current,
-                        stop: None,
-                    };
-                }
-            }
+            Ok(Executed::Again(next)) => current = next,
             Ok(Executed::Completed(next)) => {
                 return Led {
                     steps: steps + 1,
@@ -156,6 +145,11 @@ fn instructions(cpu: Lh5801, memory: &mut Memory, settings: Settings, done: u32)
                 };
             }
         }
+    }
+    Led {
+        steps: settings.limit,
+        cpu: current,
+        stop: None,
     }
 }
 

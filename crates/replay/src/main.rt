@@ -159,7 +159,7 @@ fn patch(page: &mut [u8], which: u8, sets: &[u8])
 {
     let mut left = sets;
     while let [low, high, number, byte, more @ ..] = left {
-        let offset = usize::from(*low) + 256 * usize::from(*high);
+        let offset = usize::from(u16::from_le_bytes([*low, *high]));
         set(page, *number == which, offset, *byte);
         left = more;
     }

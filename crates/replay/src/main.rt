@@ -40,7 +40,7 @@ const PARTS: [&str; 8] = [
 ];
 
 // Two running sums over numbers: each number is added to the first, and then the first to the second, modulo 2^64.
-#[derive(Clone, Copy, PartialEq, Eq)]
+#[derive(Clone, Copy, Default, PartialEq, Eq)]
 struct Sums {
     first: u64,
     second: u64,
@@ -63,7 +63,7 @@ struct Lent {
 }
 
 // How many calls were replayed, and how many of them answered something else than the list.
-#[derive(Clone, Copy)]
+#[derive(Clone, Copy, Default)]
 struct Tally {
     calls: u64,
     differ: u64,
@@ -200,11 +200,8 @@ fn log_of(used: u64) -> Option<usize>
 fn sums_after(page0: &[u8], page1: &[u8], entries: &[u32], used: usize) -> Sums
     ensures { result ≡ sums_after_of page0.now page1.now entries.now used }
 {
-    let none = Sums {
-        first: 0,
-        second: 0,
-    };
-    none.over(page0)
+    Sums::default()
+        .over(page0)
         .over(page1)
         .over(entries)
         .with_number(used as u64)
@@ -373,10 +370,7 @@ fn both(a: Tally, b: Tally) -> Tally
 
 // Replays the eight parts and prints the counts. A file that cannot be opened or read ends the program with its error, and no count is printed.
 fn main(rt: HostRuntime) -> io::Result<()> {
-    let mut tally = Tally {
-        calls: 0,
-        differ: 0,
-    };
+    let mut tally = Tally::default();
     for path in PARTS {
         tally = both(tally, replay_path(&rt, path)?);
     }

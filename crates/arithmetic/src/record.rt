@@ -44,193 +44,124 @@ pub struct Lh5801 {
 }
 
 impl Lh5801 {
-    // The same record, field by field. A setter that starts from here keeps the fields in registers:
-    // a whole copy with one store after it would go through memory (docs/DECISIONS.md). A parameter cannot
-    // name a field, so each has a setter of its own.
-    fn each(self) -> Self
-        ensures { result ≡ self }
-    {
-        Lh5801 {
-            a: self.a,
-            t: self.t,
-            x: self.x,
-            y: self.y,
-            u: self.u,
-            s: self.s,
-            p: self.p,
-            is_halted: self.is_halted,
-            pu: self.pu,
-            pv: self.pv,
-            bf: self.bf,
-            disp: self.disp,
-            tm: self.tm,
-            ir0: self.ir0,
-            ir1: self.ir1,
-            ir2: self.ir2,
-            is_timer_reached: self.is_timer_reached,
-            timer_state: self.timer_state,
-            step_previous_state: self.step_previous_state,
-            ticks: self.ticks,
-        }
-    }
-
+    // A parameter cannot name a field, so each has a setter of its own.
     pub fn with_a(self, v: u8) -> Self
         ensures { result ≡ with_a self v }
     {
-        let mut r = self.each();
-        r.a = v;
-        r
+        Lh5801 { a: v, ..self }
     }
 
     pub fn with_t(self, v: u8) -> Self
         ensures { result ≡ with_t self v }
     {
-        let mut r = self.each();
-        r.t = v;
-        r
+        Lh5801 { t: v, ..self }
     }
 
     pub fn with_x(self, v: u16) -> Self
         ensures { result ≡ with_x self v }
     {
-        let mut r = self.each();
-        r.x = v;
-        r
+        Lh5801 { x: v, ..self }
     }
 
     pub fn with_y(self, v: u16) -> Self
         ensures { result ≡ with_y self v }
     {
-        let mut r = self.each();
-        r.y = v;
-        r
+        Lh5801 { y: v, ..self }
     }
 
     pub fn with_u(self, v: u16) -> Self
         ensures { result ≡ with_u self v }
     {
-        let mut r = self.each();
-        r.u = v;
-        r
+        Lh5801 { u: v, ..self }
     }
 
     pub fn with_s(self, v: u16) -> Self
         ensures { result ≡ with_s self v }
     {
-        let mut r = self.each();
-        r.s = v;
-        r
+        Lh5801 { s: v, ..self }
     }
 
     pub fn with_p(self, v: u16) -> Self
         ensures { result ≡ with_p self v }
     {
-        let mut r = self.each();
-        r.p = v;
-        r
+        Lh5801 { p: v, ..self }
     }
 
     pub fn with_is_halted(self, v: bool) -> Self
         ensures { result ≡ with_is_halted self v }
     {
-        let mut r = self.each();
-        r.is_halted = v;
-        r
+        Lh5801 { is_halted: v, ..self }
     }
 
     pub fn with_pu(self, v: bool) -> Self
         ensures { result ≡ with_pu self v }
     {
-        let mut r = self.each();
-        r.pu = v;
-        r
+        Lh5801 { pu: v, ..self }
     }
 
     pub fn with_pv(self, v: bool) -> Self
         ensures { result ≡ with_pv self v }
     {
-        let mut r = self.each();
-        r.pv = v;
-        r
+        Lh5801 { pv: v, ..self }
     }
 
     pub fn with_bf(self, v: bool) -> Self
         ensures { result ≡ with_bf self v }
     {
-        let mut r = self.each();
-        r.bf = v;
-        r
+        Lh5801 { bf: v, ..self }
     }
 
     pub fn with_disp(self, v: bool) -> Self
         ensures { result ≡ with_disp self v }
     {
-        let mut r = self.each();
-        r.disp = v;
-        r
+        Lh5801 { disp: v, ..self }
     }
 
     pub fn with_tm(self, v: u16) -> Self
         ensures { result ≡ with_tm self v }
     {
-        let mut r = self.each();
-        r.tm = v;
-        r
+        Lh5801 { tm: v, ..self }
     }
 
     pub fn with_ir0(self, v: bool) -> Self
         ensures { result ≡ with_ir0 self v }
     {
-        let mut r = self.each();
-        r.ir0 = v;
-        r
+        Lh5801 { ir0: v, ..self }
     }
 
     pub fn with_ir1(self, v: bool) -> Self
         ensures { result ≡ with_ir1 self v }
     {
-        let mut r = self.each();
-        r.ir1 = v;
-        r
+        Lh5801 { ir1: v, ..self }
     }
 
     pub fn with_ir2(self, v: bool) -> Self
         ensures { result ≡ with_ir2 self v }
     {
-        let mut r = self.each();
-        r.ir2 = v;
-        r
+        Lh5801 { ir2: v, ..self }
     }
 
     pub fn with_is_timer_reached(self, v: bool) -> Self
         ensures { result ≡ with_is_timer_reached self v }
     {
-        let mut r = self.each();
-        r.is_timer_reached = v;
-        r
+        Lh5801 { is_timer_reached: v, ..self }
     }
 
     pub fn with_timer_state(self, v: u64) -> Self
         ensures { result ≡ with_timer_state self v }
     {
-        let mut r = self.each();
-        r.timer_state = v;
-        r
+        Lh5801 { timer_state: v, ..self }
     }
 
     pub fn with_step_previous_state(self, v: u64) -> Self
         ensures { result ≡ with_step_previous_state self v }
     {
-        let mut r = self.each();
-        r.step_previous_state = v;
-        r
+        Lh5801 { step_previous_state: v, ..self }
     }
 
     pub fn with_ticks(self, v: u64) -> Self
         ensures { result ≡ with_ticks self v }
     {
-        let mut r = self.each();
-        r.ticks = v;
-        r
+        Lh5801 { ticks: v, ..self }
     }
 }

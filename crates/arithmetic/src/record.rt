@@ -90,7 +90,10 @@ impl Lh5801 {
     pub fn with_is_halted(self, v: bool) -> Self
         ensures { result ≡ with_is_halted self v }
     {
-        Lh5801 { is_halted: v, ..self }
+        Lh5801 {
+            is_halted: v,
+            ..self
+        }
     }
 
     pub fn with_pu(self, v: bool) -> Self
@@ -144,19 +147,28 @@ impl Lh5801 {
     pub fn with_is_timer_reached(self, v: bool) -> Self
         ensures { result ≡ with_is_timer_reached self v }
     {
-        Lh5801 { is_timer_reached: v, ..self }
+        Lh5801 {
+            is_timer_reached: v,
+            ..self
+        }
     }
 
     pub fn with_timer_state(self, v: u64) -> Self
         ensures { result ≡ with_timer_state self v }
     {
-        Lh5801 { timer_state: v, ..self }
+        Lh5801 {
+            timer_state: v,
+            ..self
+        }
     }
 
     pub fn with_step_previous_state(self, v: u64) -> Self
         ensures { result ≡ with_step_previous_state self v }
     {
-        Lh5801 { step_previous_state: v, ..self }
+        Lh5801 {
+            step_previous_state: v,
+            ..self
+        }
     }
 
     pub fn with_ticks(self, v: u64) -> Self

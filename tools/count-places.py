@@ -107,7 +107,11 @@ for g in structs.values():
 for fn in fns:
     for m in re.finditer(r'\bwhile [^{]*|\bloop \{', fn.body):
         note(3, f'{fn.file}:{fn.line}', f'{fn.name}: {m[0].strip()}')
-    if re.search(rf'(?<![.:\w]){fn.name}\(', fn.body):
+    for m in re.finditer(r'for (\w+) in [\w.]*\.\.|for \((\w+),', fn.body):
+        i = m[1] or m[2]
+        if re.search(rf'\[[^\]]*\b{i}\b[^\]]*\]|get\({i}\)', fn.body[m.end():]):
+            note(3, f'{fn.file}:{fn.line}', f'{fn.name}: {m[0]} and an index')
+    if re.search(rf'(?<![.:\w])(?:self\.)?{fn.name}\(', fn.body):
         note(3, f'{fn.file}:{fn.line}', f'{fn.name}: calls itself')
 
 # 4. conversion by hand: `as`, the forms of std::num, halves of words by / and %, and functions that convert or print

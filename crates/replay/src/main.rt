@@ -17,7 +17,7 @@
 ghost use Rattle.std.specs.Prelude.{◌≡◌, ℕ, ◌+◌, ◌^◌, ◌<◌, ◌≤◌, List, None, Some, length, take, IfOk, IfSome, MatchOption};
 ghost use Rattle.std.specs.List.{AllZip};
 ghost use Rattle.replay.specs.Numbers.{number_at, with_number, sums_of, sums_after_of, both_of, next_byte_of};
-ghost use Rattle.replay.specs.Bytes.{fill_of, copy_page_of, set_of, patch_of, prepare_of};
+ghost use Rattle.replay.specs.Bytes.{fill_of, copy_page_of, patch_of, prepare_of};
 ghost use Rattle.replay.specs.Calls.{refusal_differs_of, log_in, call_differs_of, differs_of, lent_of, taken, item_of, replay_of, Replayed};
 
 use bus::BusLog;
@@ -142,25 +142,17 @@ fn fill(page: &mut [u8], len: usize, rule: Rule)
     }
 }
 
-// One byte of a page, where it is this page's, which the item tells by a number, and lies in it.
-#[tactic(auto, unfolding(crate::specs::Bytes::set_of))]
-fn set(page: &mut [u8], is_here: bool, offset: usize, byte: u8)
-    ensures { page.new ≡ set_of page.old is_here offset byte }
-{
-    if is_here && offset < page.len() {
-        page[offset] = byte;
-    }
-}
-
 // The bytes that are set after the fill rule in one page: in groups of four the offset in two bytes, the page, and the byte.
-#[tactic(auto, using(crate::proofs::Stores::short, crate::proofs::Stores::one_patched, crate::proofs::Stores::rest_left), unfolding(crate::specs::Bytes::patch_of))]
+#[tactic(auto, using(crate::proofs::Stores::short), unfolding(crate::specs::Bytes::patch_of))]
 fn patch(page: &mut [u8], which: u8, sets: &[u8])
     ensures { page.new ≡ patch_of page.old which sets.now }
 {
     let mut left = sets;
     while let [low, high, number, byte, more @ ..] = left {
         let offset = usize::from(u16::from_le_bytes([*low, *high]));
-        set(page, *number == which, offset, *byte);
+        if *number == which && offset < page.len() {
+            page[offset] = *byte;
+        }
         left = more;
     }
 }

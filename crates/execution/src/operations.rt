@@ -2,6 +2,7 @@
 ghost use Rattle.std.specs.Prelude.{◌≡◌, if◌then◌else◌};
 ghost use Rattle.pages.specs.Contract.{Changes, Reads};
 ghost use Rattle.execution.specs.Instructions.{operated, alu_of, store_of, sta_of, changed_of, memory_of, bii_of, drr_of, drl_of, load_of, compare_of, inc_half_of, dec_half_of};
+ghost use Rattle.arithmetic.specs.Sums.{inc_of, dec_of};
 
 use crate::instructions::{Change, Operation};
 use crate::places;
@@ -125,16 +126,22 @@ pub fn compare(cpu: Lh5801, view: View, h: Half) -> Lh5801
     arithmetic::cpa(cpu.with_p(f.p), left, f.value)
 }
 
+// One more or one less.
+pub fn counted<const UP: bool>(t: u8, value: u8) -> arithmetic::Sum<u8>
+    ensures { result ≡ (if UP then inc_of t value else dec_of t value) }
+{
+    if UP {
+        arithmetic::inc(t, value)
+    } else {
+        arithmetic::dec(t, value)
+    }
+}
+
 // INC and DEC of a half.
 #[tactic(auto, unfolding(crate::specs::Instructions::inc_half_of, crate::specs::Instructions::dec_half_of))]
 pub fn count_half<const UP: bool>(cpu: Lh5801, h: Half) -> Lh5801
     ensures { result ≡ (if UP then inc_half_of cpu h else dec_half_of cpu h) }
 {
-    let v = places::get_half(cpu, h);
-    let s = if UP {
-        arithmetic::inc(cpu.t, v)
-    } else {
-        arithmetic::dec(cpu.t, v)
-    };
+    let s = counted::<UP>(cpu.t, places::get_half(cpu, h));
     places::set_half(cpu.with_t(s.t), h, s.value)
 }

@@ -5,8 +5,8 @@ ghost use Rattle.arithmetic.specs.Sums.{inc_of, dec_of, with_sum};
 ghost use Rattle.execution.specs.Instructions.{inc_word_of, dec_word_of, sin_of, sde_of, lin_of, lde_of, load_sOf, tin_of, cin_of, on_aOf, signal_of, pop_to_of, push_from_of, to_xOf, from_xOf, adr_in_of, cdv_of, drop_word_of};
 
 use crate::instructions::{Accumulator, Signal, Word};
-use crate::places;
 use crate::places::Register;
+use crate::{operations, places};
 use arithmetic::record::Lh5801;
 use pages::{Memory, View};
 
@@ -74,11 +74,7 @@ pub fn cin(cpu: Lh5801, view: View) -> Lh5801
 fn count_a<const UP: bool>(cpu: Lh5801) -> Lh5801
     ensures { result ≡ with_sum cpu (if UP then inc_of cpu.t cpu.a else dec_of cpu.t cpu.a) }
 {
-    let s = if UP {
-        arithmetic::inc(cpu.t, cpu.a)
-    } else {
-        arithmetic::dec(cpu.t, cpu.a)
-    };
+    let s = operations::counted::<UP>(cpu.t, cpu.a);
     cpu.with_a(s.value).with_t(s.t)
 }
 

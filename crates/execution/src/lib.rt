@@ -39,7 +39,7 @@ impl Inputs {
         ensures { result ≡ of_keyboard keyboard }
     {
         Inputs {
-            keyboard: keyboard,
+            keyboard,
             idle: 0,
         }
     }

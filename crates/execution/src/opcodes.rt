@@ -281,7 +281,7 @@ fn row_f(column: u8) -> Option<Listed>
     }
 }
 
-// The instruction of a first byte. FD names none, so it answers none.
+// The instruction of a first byte: an arm for each row, as in the table. FD names none, so it answers none.
 #[tactic(auto, unfolding(crate::specs::Opcodes::decoded))]
 pub fn decode_first(byte: u8) -> Option<Listed>
     ensures { result ≡ decoded byte }

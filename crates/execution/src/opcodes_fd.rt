@@ -174,7 +174,7 @@ fn row_e(column: u8) -> Option<Listed>
     }
 }
 
-// The instruction of a byte after FD.
+// The instruction of a byte after FD: an arm for each row, as in the table.
 #[tactic(auto, unfolding(crate::specs::OpcodesFd::decoded_fd))]
 pub fn decode_fd(byte: u8) -> Option<Listed>
     ensures { result ≡ decoded_fd byte }

@@ -1,4 +1,4 @@
-// Operand places.
+// Operand places. Functions and no methods, since the record is the crate arithmetic's.
 ghost use Rattle.std.specs.Prelude.{◌≡◌};
 ghost use Rattle.pages.specs.Contract.{Reads};
 ghost use Rattle.execution.specs.Places.{word_in, with_word, half_in, with_half, address_of, locate_of, operand_of};

@@ -38,27 +38,15 @@ fn taken(words: &[u64; 16]) -> [u64; 12]
 fn words_of(r: Answer) -> [u64; 16]
     ensures { (result ≡ words_of r) × AllWithin word_widths (words_of r) }
 {
-    let numbers = record_numbers::from_record(r.cpu);
-    let number = u64::from(r.end.number());
-    let byte = u64::from(r.end.byte());
-    [
-        numbers[0],
-        numbers[1],
-        numbers[2],
-        numbers[3],
-        numbers[4],
-        numbers[5],
-        numbers[6],
-        numbers[7],
-        numbers[8],
-        numbers[9],
-        numbers[10],
-        numbers[11],
-        number,
-        byte,
+    let mut words = [0u64; 16];
+    words[..12].copy_from_slice(&record_numbers::from_record(r.cpu));
+    words[12..].copy_from_slice(&[
+        u64::from(r.end.number()),
+        u64::from(r.end.byte()),
         u64::from(r.steps),
         r.states,
-    ]
+    ]);
+    words
 }
 
 // The run call; the used count after it is returned. `logged` says whether a log is lent, as C has no Option. In C: lh5801_call(words, page0, length0, page1, length1, limit, keyboard, idle, logged, log,
@@ -87,6 +75,7 @@ pub extern "C" fn lh5801_call(
         entries: log,
         used: log_used,
     };
+    // The call stands twice: the proof does not follow a borrow that a condition puts into an Option.
     let answer = if logged {
         run::run(cpu, page0, page1, Some(&mut lent), settings)
     } else {

@@ -184,7 +184,7 @@ fn advance(cpu: Lh5801, memory: &mut Memory, settings: Settings, done: u32) -> L
     instructions(cpu, memory, settings, done)
 }
 
-// Steps up to the limit, or to the first that stops, without a log.
+// Steps up to the limit, or to the first that stops, without a log. How many steps a round completes is known after it, so that no range counts them.
 fn steps_of(cpu: Lh5801, memory: &mut Memory, settings: Settings) -> Answer
     requires { settings.limit ≤ 1000000 }
     ensures { AnswersIn (run_of settings.limit settings.inputs None cpu (at_entry memory)) memory.entry.now result memory.exit.now }

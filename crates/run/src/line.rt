@@ -36,6 +36,7 @@ fn hex_digit(value: u16) -> u8
     b"0123456789ABCDEF"[usize::from(value)]
 }
 
+// Each method asks for room for what it writes: the buffer is fixed, since the project has no heap.
 impl LineText {
     fn new() -> LineText
         ensures { result ≡ [] }

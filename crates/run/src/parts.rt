@@ -6,7 +6,7 @@ use crate::{Answer, Settings};
 use arithmetic::record::Lh5801;
 use bus::BusLog;
 
-// So many bytes, from a place on, to the start of a page.
+// So many bytes, from a place on, to the start of a page: place and length are numbers of the file, which are checked before.
 #[tactic(auto, using(crate::proofs::Stored::range_part, crate::proofs::Stored::part_length, crate::proofs::Stored::put_before))]
 pub fn copy_part(bytes: &[u8], at: usize, page: &mut [u8], len: usize)
     requires { (at + len ≤ length bytes.now) × (len ≤ length page.old) }

@@ -1,5 +1,5 @@
 -- The accesses that specs/Code/Shapes.antt computes ahead of a step are those that the step makes.
-use Rattle.std.proofs.Common.{◌≡◌, ℕ, ◌+◌, ◌/◌, ◌%◌, ◌≤◌, Bool, true, false, cond, not, ◌&&◌, ◌||◌, eqb, List, [], ◌∷◌, ◌++◌, length, refl, ap, ◌∙◌, append-nil, arith, eqb-true}
+use Rattle.std.proofs.Common.{◌≡◌, ℕ, ◌+◌, ◌/◌, ◌%◌, ◌≤◌, Bool, true, false, cond, ◌&&◌, ◌||◌, eqb, List, [], ◌∷◌, ◌++◌, length, refl, ap, ◌∙◌, append-nil, arith, eqb-true}
 use Rattle.arithmetic.specs.declared.record.Lh5801.{Lh5801}
 use Rattle.arithmetic.specs.Record.{with_p, with_s, with_t, with_ir1, with_ir2, with_is_timer_reached}
 use Rattle.arithmetic.specs.Flags.{IE, has_flag}
@@ -215,27 +215,17 @@ cond_each : (b : Bool) {k k' l l' : List Access} → k ≡ k' → l ≡ l' → c
 cond_each true p q = p
 cond_each false p q = q
 
-cond_not : (b : Bool) (k l : List Access) → cond b k l ≡ cond (not b) l k
-cond_not true k l = refl
-cond_not false k l = refl
-
-cond_and : (a b : Bool) (k l : List Access) → cond a (cond b k l) l ≡ cond (a && b) k l
-cond_and true b k l = refl
-cond_and false b k l = refl
-
-powered_accesses_lem : (m : Lh5801) (inputs : Inputs) (pages : Pages)
-    → completed_accesses (exec (powered_of m inputs) pages) ≡ cond (not m.ir0) (powered_accesses m pages m.ir1) []
+powered_accesses_lem : (m : Lh5801) (inputs : Inputs) (pages : Pages) → completed_accesses (exec (powered_of m inputs) pages) ≡ powered_accesses m pages m.ir1
 unfolding powered_of exec with_ir1 with_ir2
 powered_accesses_lem m inputs pages =
     completed_cond pages m.ir0 _ _
     ∙ cond_each m.ir0 refl (completed_cond pages (m.ir1 && has_flag m.t IE) _ _
     ∙ cond_each (m.ir1 && has_flag m.t IE) (interrupt_accesses (with_ir1 m false) 0xFFFA pages) (completed_cond pages (m.ir2 && has_flag m.t IE) _ _
     ∙ cond_each (m.ir2 && has_flag m.t IE) (interrupt_accesses (with_ir2 m false) 0xFFF8 pages) (completed_cond pages m.is_halted _ _
-    ∙ cond_each m.is_halted (halted_accesses m inputs pages) (instruction_accesses_lem m inputs pages) ∙ cond_not m.is_halted _ _)))
-    ∙ cond_not m.ir0 _ _
+    ∙ cond_each m.is_halted (halted_accesses m inputs pages) (instruction_accesses_lem m inputs pages))))
 
 reached_accesses : (m : Lh5801) (inputs : Inputs) (pages : Pages) (r : Bool)
-    → completed_accesses (exec (powered_of (cond r (moved m) m) inputs) pages) ≡ cond (not m.ir0) (powered_accesses m pages (r || m.ir1)) []
+    → completed_accesses (exec (powered_of (cond r (moved m) m) inputs) pages) ≡ powered_accesses m pages (r || m.ir1)
 unfolding instruction_accesses locate_of with_ir1 with_is_timer_reached with_p
 reached_accesses m inputs pages true = powered_accesses_lem (moved m) inputs pages
 reached_accesses m inputs pages false = powered_accesses_lem m inputs pages
@@ -244,7 +234,7 @@ reached_accesses m inputs pages false = powered_accesses_lem m inputs pages
 pub step_accesses_ahead : (m : Lh5801) (inputs : Inputs) (pages : Pages) → completed_accesses (exec (step_of m inputs) pages) ≡ step_accesses m pages
 unfolding step_of reached_of exec
 step_accesses_ahead m inputs pages =
-    completed_cond pages m.bf _ _ ∙ cond_each m.bf (reached_accesses m inputs pages m.is_timer_reached) refl ∙ cond_and m.bf (not m.ir0) _ _
+    completed_cond pages m.bf _ _ ∙ cond_each m.bf (reached_accesses m inputs pages m.is_timer_reached) refl
 
 -- at most seven
 pub completed_few : (m : Lh5801) (inputs : Inputs) (pages : Pages) → length (completed_accesses (exec (step_of m inputs) pages)) ≤ 7

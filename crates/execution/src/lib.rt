@@ -38,10 +38,7 @@ impl Inputs {
     pub fn of_keyboard(keyboard: u8) -> Inputs
         ensures { result ≡ of_keyboard keyboard }
     {
-        Inputs {
-            keyboard,
-            idle: 0,
-        }
+        Inputs { keyboard, idle: 0 }
     }
 }
 

@@ -1,7 +1,7 @@
 -- How the code is built, and need not be believed: proofs/AccessesAhead.antt shows that these are the accesses of the step.
 -- The accesses of the coming step, computed from the record and the pages before it, for the log of document 02's F-2. Each instruction has a
 -- shape, what is read and written after its own bytes; `shape_accesses` says what each shape stands for.
-use Rattle.std.specs.Prelude.{ℕ, zero, suc, ◌+◌, ◌/◌, ◌%◌, Bool, cond, not, ◌&&◌, ◌||◌, Option, Some, None, List, [], ◌∷◌, ◌++◌, ◌==◌}
+use Rattle.std.specs.Prelude.{ℕ, zero, suc, ◌+◌, ◌/◌, ◌%◌, Bool, cond, ◌&&◌, ◌||◌, Option, Some, None, List, [], ◌∷◌, ◌++◌, ◌==◌}
 use Rattle.arithmetic.specs.declared.record.Lh5801.{Lh5801}
 use Rattle.arithmetic.specs.Record.{with_p}
 use Rattle.arithmetic.specs.Flags.{IE, has_flag}
@@ -179,14 +179,16 @@ fetched_accesses m pages o (Some shape) = opcode_accesses pages m.p o.value ++ s
 unfoldable pub instruction_accesses : Lh5801 → Pages → List Access
 instruction_accesses m pages = fetched_accesses m pages (opcode_at pages m.p) (shape_by (opcode_at pages m.p).value)
 
--- with BF set and IR0 clear: those of an accepted interrupt, where `first` says that IR1 is set or the timer reached; else those of the
--- instruction, and none where the unit is halted, whether the step waits or stops
+-- with BF set: none where IR0 is set; those of an accepted interrupt, where `first` says that IR1 is set or the timer reached; none where the
+-- unit is halted, whether the step waits or stops; else those of the instruction
 abbrev pub powered_accesses : Lh5801 → Pages → Bool → List Access
 powered_accesses m pages first =
-    cond (first && has_flag m.t IE) (accept_accesses m pages 0xFFFA)
+    cond m.ir0 []
+    (cond (first && has_flag m.t IE) (accept_accesses m pages 0xFFFA)
     (cond (m.ir2 && has_flag m.t IE) (accept_accesses m pages 0xFFF8)
-    (cond (not m.is_halted) (instruction_accesses m pages) []))
+    (cond m.is_halted []
+    (instruction_accesses m pages))))
 
 -- the accesses of the coming step
 abbrev pub step_accesses : Lh5801 → Pages → List Access
-step_accesses m pages = cond (m.bf && not m.ir0) (powered_accesses m pages (m.is_timer_reached || m.ir1)) []
+step_accesses m pages = cond m.bf (powered_accesses m pages (m.is_timer_reached || m.ir1)) []

@@ -27,7 +27,7 @@ pub full_iff : (log : Option Log)
 unfolding free_in
 full_iff None = (
   λ f. absurd (true≢false cc),
-  λ r. absurd (let z : ◌≡◌ {A = ℕ} 0 1 = let e = r.1.0 in cc in omega arith),
+  λ r. absurd (true≢false (cc r.1.0)),
 )
 full_iff (Some log) = (
   λ f. (log, (refl, inl (ltb-true (length log.entries - log.used) 7 f))),

@@ -63,11 +63,19 @@ valid_digits v t =
       low = leb→le (v % 16) 9 (both_right (leb (v / 16) 9) (leb (v % 16) 9) t);
     }
 
+-- a decimal sum has valid digits, and its value and its carry pass a test
+abbrev decimal_right : ℕ → ℕ → Bool → (ℕ → Bool → Bool) → Bool
+decimal_right l r c test = both (valid (result l r c)) (test (value_of (result l r c)) (carries l r c))
+
+decimal_is : (t : ℕ) → t < 256 → (l r : ℕ) (c : Bool) (test : ℕ → Bool → Bool) → T (decimal_right l r c test)
+    → Digits (decimal_sum_of t l r c).value × T (test (value_of (decimal_sum_of t l r c).value) (has_flag (decimal_sum_of t l r c).t CF))
+decimal_is t small l r c test h =
+    rw (value_is t small l r c, carry_is t small l r c)
+    (valid_digits (result l r c) (both_left (valid (result l r c)) _ h), both_right (valid (result l r c)) _ h)
+
 -- DCA's rule at the bytes of m and n
 dca_right : ℕ → ℕ → Bool → Bool
-dca_right m n c =
-    let l : ℕ = plus66 (digits_of m) in
-    both (valid (result l (digits_of n) c)) (eqb (value_of (result l (digits_of n) c) + 100 * bit_of (carries l (digits_of n) c)) (m + n + bit_of c))
+dca_right m n c = decimal_right (plus66 (digits_of m)) (digits_of n) c (λ v carry. eqb (v + 100 * bit_of carry) (m + n + bit_of c))
 
 dca_all : T (everywhere dca_right)
 unfolding dca_right digits_of valid result carries
@@ -75,9 +83,7 @@ dca_all = tt
 
 -- DCS's
 dcs_right : ℕ → ℕ → Bool → Bool
-dcs_right m n c =
-    let r : ℕ = inverted (digits_of n) in
-    both (valid (result (digits_of m) r c)) (eqb (value_of (result (digits_of m) r c) + n + 1) (m + bit_of c + 100 * (1 - bit_of (carries (digits_of m) r c))))
+dcs_right m n c = decimal_right (digits_of m) (inverted (digits_of n)) c (λ v carry. eqb (v + n + 1) (m + bit_of c + 100 * (1 - bit_of carry)))
 
 dcs_all : T (everywhere dcs_right)
 unfolding dcs_right digits_of valid result carries
@@ -106,17 +112,14 @@ module _ (t a d : ℕ) (small : t < 256) (ha : Digits a) (hd : Digits d) where
   dca_digits =
       let c : Bool = has_flag t CF in
       let l : ℕ = plus66 a in
-      let value : (decimal_sum_of t l d c).value ≡ result l d c = value_is t small l d c in
-      let carry : has_flag (decimal_sum_of t l d c).t CF ≡ carries l d c = carry_is t small l d c in
       let right = rw (digits_back a ha, digits_back d hd) at (at_digits dca_right dca_all) in
-      let digits : Digits (decimal_sum_of t l d c).value = rw value (valid_digits (result l d c) (both_left (valid (result l d c)) _ right)) in
-      let equation : value_of (decimal_sum_of t l d c).value + 100 * bit_of (has_flag (decimal_sum_of t l d c).t CF) ≡ value_of a + value_of d + bit_of c =
-      rw (value, carry) (eqb→eq _ _ (both_right (valid (result l d c)) _ right)) in
+      let sum = decimal_is t small l d c (λ v carry. eqb (v + 100 * bit_of carry) (value_of a + value_of d + bit_of c)) right in
+      let equation = eqb→eq _ _ sum.1 in
       record {
-        digits = digits;
+        digits = sum.0;
         equation = equation;
-        value = omega (arith, below_hundred _ digits, equation);
-        carry = sum_carry _ _ _ (below_hundred _ digits) equation;
+        value = omega (arith, below_hundred _ sum.0, equation);
+        carry = sum_carry _ _ _ (below_hundred _ sum.0) equation;
       }
 
   pub dcs_digits : DcsDigits t a d
@@ -124,15 +127,12 @@ module _ (t a d : ℕ) (small : t < 256) (ha : Digits a) (hd : Digits d) where
   dcs_digits =
       let c : Bool = has_flag t CF in
       let r : ℕ = inverted d in
-      let value : (decimal_sum_of t a r c).value ≡ result a r c = value_is t small a r c in
-      let carry : has_flag (decimal_sum_of t a r c).t CF ≡ carries a r c = carry_is t small a r c in
       let right = rw (digits_back a ha, digits_back d hd) at (at_digits dcs_right dcs_all) in
-      let digits : Digits (decimal_sum_of t a r c).value = rw value (valid_digits (result a r c) (both_left (valid (result a r c)) _ right)) in
-      let equation : value_of (decimal_sum_of t a r c).value + value_of d + 1 ≡ value_of a + bit_of c + 100 * (1 - bit_of (has_flag (decimal_sum_of t a r c).t CF)) =
-      rw (value, carry) (eqb→eq _ _ (both_right (valid (result a r c)) _ right)) in
+      let sum = decimal_is t small a r c (λ v carry. eqb (v + value_of d + 1) (value_of a + bit_of c + 100 * (1 - bit_of carry))) right in
+      let equation = eqb→eq _ _ sum.1 in
       record {
-        digits = digits;
+        digits = sum.0;
         equation = equation;
-        value = difference_value (has_flag (decimal_sum_of t a r c).t CF) _ _ _ (below_hundred _ digits) (below_hundred d hd) equation;
-        carry = difference_carry (has_flag (decimal_sum_of t a r c).t CF) _ _ _ (below_hundred _ digits) (below_hundred d hd) equation;
+        value = difference_value (has_flag (decimal_sum_of t a r c).t CF) _ _ _ (below_hundred _ sum.0) (below_hundred d hd) equation;
+        carry = difference_carry (has_flag (decimal_sum_of t a r c).t CF) _ _ _ (below_hundred _ sum.0) (below_hundred d hd) equation;
       }

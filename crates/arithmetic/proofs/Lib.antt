@@ -4,4 +4,3 @@ pub mod Rows
 pub mod Flags
 pub mod Digits
 pub mod Status
-pub mod Timing

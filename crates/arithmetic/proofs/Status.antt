@@ -60,19 +60,25 @@ pub record Status : Type 0 where
   pub tm : ℕ
   pub ticks : ℕ
 
-abbrev pub status : Bool → Bool → Bool → Bool → Bool → Bool → Bool → ℕ → ℕ → Status
-status bf halted ir0 ir1 ir2 reached enabled tm ticks =
-    record { bf = bf; halted = halted; ir0 = ir0; ir1 = ir1; ir2 = ir2; reached = reached; enabled = enabled; tm = tm; ticks = ticks }
-
 abbrev pub status_of : Lh5801 → Status
-status_of m = status m.bf m.is_halted m.ir0 m.ir1 m.ir2 m.is_timer_reached (has_flag m.t IE) m.tm m.ticks
+status_of m = record {
+  bf = m.bf;
+  halted = m.is_halted;
+  ir0 = m.ir0;
+  ir1 = m.ir1;
+  ir2 = m.ir2;
+  reached = m.is_timer_reached;
+  enabled = has_flag m.t IE;
+  tm = m.tm;
+  ticks = m.ticks;
+}
 
 -- the status with another TM and timer reached, and with other ticks
 abbrev pub with_timer : Status → ℕ → Bool → Status
-with_timer s tm reached = status s.bf s.halted s.ir0 s.ir1 s.ir2 reached s.enabled tm s.ticks
+with_timer s tm reached = record s { tm = tm; reached = reached }
 
 abbrev pub status_with_ticks : Status → ℕ → Status
-status_with_ticks s n = status s.bf s.halted s.ir0 s.ir1 s.ir2 s.reached s.enabled s.tm n
+status_with_ticks s n = record s { ticks = n }
 
 -- k has m's TM and ticks
 pub record SameTimes (m k : Lh5801) : Type 0 where
@@ -81,7 +87,7 @@ pub record SameTimes (m k : Lh5801) : Type 0 where
 
 -- k has IR1 and timer reached as given, and else m's status, T and P
 pub record Requested (m : Lh5801) (ir1 reached : Bool) (k : Lh5801) : Type 0 where
-  pub is : status_of k ≡ status m.bf m.is_halted m.ir0 ir1 m.ir2 reached (has_flag m.t IE) m.tm m.ticks
+  pub is : status_of k ≡ record (status_of m) { ir1 = ir1; reached = reached }
   pub t : k.t ≡ m.t
   pub p : k.p ≡ m.p
 
@@ -148,8 +154,7 @@ module _ (m : Lh5801) where
   pub keeps_t : (k : Lh5801) (v : ℕ) → status_of k ≡ status_of m → Enabled v m.t → status_of (with_t k v) ≡ status_of m
   unfolding with_t
   keeps_t k v s e =
-      ap (λ (s : Status). status s.bf s.halted s.ir0 s.ir1 s.ir2 s.reached (has_flag v IE) s.tm s.ticks) s
-      ∙ ap (λ (b : Bool). status m.bf m.is_halted m.ir0 m.ir1 m.ir2 m.is_timer_reached b m.tm m.ticks) e
+      ap (λ (s : Status). record s { enabled = has_flag v IE }) s ∙ ap (λ (b : Bool). record (status_of m) { enabled = b }) e
 
   -- and so does each operation
   pub keeps_sum : (s : Sum ℕ) → Enabled s.t m.t → status_of (with_sum m s) ≡ status_of m

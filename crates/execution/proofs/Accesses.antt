@@ -11,7 +11,7 @@ use Rattle.execution.specs.declared.places.Register.{Register}
 use Rattle.execution.specs.declared.places.Place.{Place}
 use Rattle.execution.specs.declared.places.Place.TheVariants.{InHalf, Pointer, Fixed, InCode}
 use Rattle.execution.specs.declared.instructions.Instruction.{Instruction}
-use Rattle.execution.specs.declared.instructions.Instruction.TheVariants.{Alu, Sta, Memory, Bii, Drr, Drl, Load, Compare, Inc, Dec, IncWord, DecWord, Sin, Sde, Lin, Lde, Branch, Lop, VectorIf, Vector, Jmp, Sjp, Rtn, Rti, LoadS, Tin, Cin, OnA, Sets, PopWord, PushWord, PopA, PushA, ToX, FromX, DropWord, Adr, Off, Hlt, Cdv, Nop}
+use Rattle.execution.specs.declared.instructions.Instruction.TheVariants.{Alu, Sta, Memory, Bii, Drr, Drl, Load, Compare, Sin, Sde, Lin, Lde, Branch, Lop, VectorIf, Vector, Jmp, Sjp, Rtn, Rti, LoadS, Tin, Cin, PopWord, PushWord, PopA, PushA}
 use Rattle.execution.specs.declared.instructions.Listed.{Listed}
 use Rattle.std.specs.Prelude.{Option, Some, None}
 use Rattle.pages.specs.declared.Code.{Code}
@@ -72,10 +72,6 @@ most_executed m inputs (Drr page) = most_then 1 4 _ _ (most_read _) (λ b. most_
 most_executed m inputs (Drl page) = most_then 1 4 _ _ (most_read _) (λ b. most_then 1 3 _ _ (most_write _ _) (λ _. tt))
 most_executed m inputs (Load h) = most_then 1 4 _ _ (most_readop _) (λ f. tt)
 most_executed m inputs (Compare h) = most_then 1 4 _ _ (most_readop _) (λ f. tt)
-most_executed m inputs (Inc h) = tt
-most_executed m inputs (Dec h) = tt
-most_executed m inputs (IncWord r) = tt
-most_executed m inputs (DecWord r) = tt
 most_executed m inputs (Sin r) = most_then 1 4 _ _ (most_store_at m r) (λ k. tt)
 most_executed m inputs (Sde r) = most_then 1 4 _ _ (most_store_at m r) (λ k. tt)
 most_executed m inputs (Lin r) = most_then 1 4 _ _ (most_load_at m r) (λ k. tt)
@@ -91,20 +87,11 @@ most_executed m inputs Rti = most_then 2 3 _ _ (most_pop_word _) (λ w. most_the
 most_executed m inputs LoadS = most_then 2 3 _ _ (most_readop_word _) (λ w. tt)
 most_executed m inputs Tin = most_then 1 4 _ _ (most_read _) (λ b. most_then 1 3 _ _ (most_write _ _) (λ _. tt))
 most_executed m inputs Cin = most_then 1 4 _ _ (most_read _) (λ b. tt)
-most_executed m inputs (OnA o) = tt
-most_executed m inputs (Sets s v) = tt
 most_executed m inputs (PopWord r) = most_then 2 3 _ _ (most_pop_word _) (λ w. tt)
 most_executed m inputs (PushWord r) = most_more 2 5 (push_word_of m (word_in m r)) (omega arith) (most_push_word m _)
 most_executed m inputs PopA = most_more 1 5 (pop_of m) (omega arith) (most_pop m)
 most_executed m inputs PushA = most_more 1 5 (push_of m m.a) (omega arith) (most_push m _)
-most_executed m inputs (ToX w) = tt
-most_executed m inputs (FromX w) = tt
-most_executed m inputs DropWord = tt
-most_executed m inputs (Adr r) = tt
-most_executed m inputs Off = tt
-most_executed m inputs Hlt = tt
-most_executed m inputs Cdv = tt
-most_executed m inputs Nop = tt
+most_executed m inputs i = tt
 
 most_fetch : (p : ℕ) → AtMost 2 (fetch_of p)
 unfolding fetch_of

@@ -17,7 +17,7 @@ use Rattle.execution.specs.declared.places.Place.TheVariants.{InHalf, Pointer, F
 use Rattle.execution.specs.declared.instructions.Change.{Change}
 use Rattle.execution.specs.declared.instructions.Condition.{Condition}
 use Rattle.execution.specs.declared.instructions.Instruction.{Instruction}
-use Rattle.execution.specs.declared.instructions.Instruction.TheVariants.{Alu, Sta, Memory, Bii, Drr, Drl, Load, Compare, Inc, Dec, IncWord, DecWord, Sin, Sde, Lin, Lde, Branch, Lop, VectorIf, Vector, Jmp, Sjp, Rtn, Rti, LoadS, Tin, Cin, OnA, Sets, PopWord, PushWord, PopA, PushA, ToX, FromX, DropWord, Adr, Off, Hlt, Cdv, Nop}
+use Rattle.execution.specs.declared.instructions.Instruction.TheVariants.{Alu, Sta, Memory, Bii, VectorIf, Vector}
 use Rattle.execution.specs.declared.instructions.Listed.{Listed}
 use Rattle.std.specs.Prelude.{Option, Some, None}
 use Rattle.execution.specs.declared.Opcode.{Opcode}
@@ -116,43 +116,9 @@ executed_accesses m inputs (Alu o place) pages = operand_accesses m pages place 
 executed_accesses m inputs (Sta place) pages = sta_accesses m pages place
 executed_accesses m inputs (Memory o place) pages = memory_accesses m pages o place
 executed_accesses m inputs (Bii place) pages = bii_accesses m pages place
-executed_accesses m inputs (Drr page) pages = refl
-executed_accesses m inputs (Drl page) pages = refl
-executed_accesses m inputs (Load h) pages = refl
-executed_accesses m inputs (Compare h) pages = refl
-executed_accesses m inputs (Inc h) pages = refl
-executed_accesses m inputs (Dec h) pages = refl
-executed_accesses m inputs (IncWord r) pages = refl
-executed_accesses m inputs (DecWord r) pages = refl
-executed_accesses m inputs (Sin r) pages = refl
-executed_accesses m inputs (Sde r) pages = refl
-executed_accesses m inputs (Lin r) pages = refl
-executed_accesses m inputs (Lde r) pages = refl
-executed_accesses m inputs (Branch direction c) pages = refl
-executed_accesses m inputs Lop pages = refl
 executed_accesses m inputs (VectorIf c) pages = vector_if_accesses_lem m pages c
 executed_accesses m inputs (Vector nr) pages = vector_accesses_lem m pages nr
-executed_accesses m inputs Jmp pages = refl
-executed_accesses m inputs Sjp pages = refl
-executed_accesses m inputs Rtn pages = refl
-executed_accesses m inputs Rti pages = refl
-executed_accesses m inputs LoadS pages = refl
-executed_accesses m inputs Tin pages = refl
-executed_accesses m inputs Cin pages = refl
-executed_accesses m inputs (OnA o) pages = refl
-executed_accesses m inputs (Sets s v) pages = refl
-executed_accesses m inputs (PopWord r) pages = refl
-executed_accesses m inputs (PushWord r) pages = refl
-executed_accesses m inputs PopA pages = refl
-executed_accesses m inputs PushA pages = refl
-executed_accesses m inputs (ToX w) pages = refl
-executed_accesses m inputs (FromX w) pages = refl
-executed_accesses m inputs DropWord pages = refl
-executed_accesses m inputs (Adr r) pages = refl
-executed_accesses m inputs Off pages = refl
-executed_accesses m inputs Hlt pages = refl
-executed_accesses m inputs Cdv pages = refl
-executed_accesses m inputs Nop pages = refl
+executed_accesses m inputs i pages = refl
 
 -- the opcode's own bytes
 fetch_accesses : (pages : Pages) (p : ℕ) → (exec (fetch_of p) pages).accesses ≡ opcode_accesses pages p (opcode_at pages p).value

@@ -192,13 +192,9 @@ outcome_in (Ok e) = Ok (record_in e)
 outcome_in (Err s) = Err s
 
 executed_outcome : (e : StepEnd) → outcome_in (executed_of e) ≡ outcome_of e
-executed_outcome (did m states off) = refl
-executed_outcome (did m states held) = refl
-executed_outcome (did m states (interrupt vector)) = refl
-executed_outcome (did m states waiting) = refl
 executed_outcome (did m states (instruction opcode)) =
     cond_both (λ x. outcome_in (Ok x) ≡ Ok m) (settled_by (decoded_by opcode) && not m.is_timer_reached) _ _ refl refl
-executed_outcome (stopped s) = refl
+executed_outcome e = refl
 
 pub executed_step : (m : Lh5801) (inputs : Inputs) {p q : Memory} {r : Result Executed Stop} → Does (mapped executed_of (step_of m inputs)) p r q
     → Does (mapped outcome_of (step_of m inputs)) p (outcome_in r) q

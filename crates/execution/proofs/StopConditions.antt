@@ -1,5 +1,5 @@
 -- A step stops with 7, 5 or 6 under document 01's condition for it and no other.
-use Rattle.std.proofs.Common.{◌≡◌, ℕ, Bool, true, false, eqb, ◌↔◌, sym, refl, ap, ◌∙◌, subst, true≢false, arith, eq-eqb, ne_eqb, eqb-true}
+use Rattle.std.proofs.Common.{◌≡◌, ℕ, Bool, true, false, eqb, ◌↔◌, sym, refl, ap, ◌∙◌, subst, true≢false, eq-eqb, ne_eqb, eqb-true}
 use native.Mathlib.Decide.{ℕ_discrete}
 use borrow.Author.Tests.{eqb-false}
 use Rattle.arithmetic.specs.declared.record.Lh5801.{Lh5801}
@@ -158,41 +158,39 @@ module _ (m : Lh5801) (inputs : Inputs) (pages : Pages) where
   completed_did : IsActive answer → IsDid answer
   completed_did = active_did answer
 
+  -- the condition of each stop
+  abbrev Stops : Stop → Type 0
+  Stops Halted = HaltedStop inputs m
+  Stops (Unlisted (First b)) = FirstUnlisted m pages b
+  Stops (Unlisted (AfterFd b)) = SecondUnlisted m pages b
+
+  stops : (s : Stop) → answer ≡ stopped s → Stops s
+  stops s e = go case_of
+    where
+      same : {t : Stop} → answer ≡ stopped t → Stops t → Stops s
+      same {t} a h = let z : t ≡ s = cc (a, e) in subst Stops z h
+
+      go : Case → Stops s
+      go (is_halted_lem h) = same (halted_answer h) h
+      go (is_waiting w) = absurd (never_both s (waiting_did w) e)
+      go (is_first b f) = same (first_answer b f) f
+      go (is_second b f) = same (second_answer b f) f
+      go (is_completed d) = absurd (never_both s (completed_did d) e)
+
   -- 7
   pub stops_7 : ((exec (step_of m inputs) pages).answer ≡ stopped Halted) ↔ HaltedStop inputs m
   unfolding answer
-  stops_7 = (λ e. go case_of e, halted_answer)
-    where
-      go : Case → answer ≡ stopped Halted → HaltedStop inputs m
-      go (is_halted_lem h) e = h
-      go (is_waiting w) e = absurd (never_both Halted (waiting_did w) e)
-      go (is_first b f) e = absurd (let z : ◌≡◌ {A = ℕ} 0 1 = cc (first_answer b f) in omega arith)
-      go (is_second b f) e = absurd (let z : ◌≡◌ {A = ℕ} 0 1 = cc (second_answer b f) in omega arith)
-      go (is_completed d) e = absurd (never_both Halted (completed_did d) e)
+  stops_7 = (stops Halted, halted_answer)
 
   -- 5, with the byte
   pub stops_5 : (b : ℕ) → ((exec (step_of m inputs) pages).answer ≡ stopped (Unlisted (First b))) ↔ FirstUnlisted m pages b
   unfolding answer
-  stops_5 b = (λ e. go case_of e, first_answer b)
-    where
-      go : Case → answer ≡ stopped (Unlisted (First b)) → FirstUnlisted m pages b
-      go (is_halted_lem h) e = absurd (let z : ◌≡◌ {A = ℕ} 0 1 = cc (halted_answer h) in omega arith)
-      go (is_waiting w) e = absurd (never_both (Unlisted (First b)) (waiting_did w) e)
-      go (is_first c f) e = let z : c ≡ b = cc (first_answer c f) in rw z at f
-      go (is_second c f) e = absurd (let z : ◌≡◌ {A = ℕ} 0 1 = cc (second_answer c f) in omega arith)
-      go (is_completed d) e = absurd (never_both (Unlisted (First b)) (completed_did d) e)
+  stops_5 b = (stops (Unlisted (First b)), first_answer b)
 
   -- 6, with the byte
   pub stops_6 : (b : ℕ) → ((exec (step_of m inputs) pages).answer ≡ stopped (Unlisted (AfterFd b))) ↔ SecondUnlisted m pages b
   unfolding answer
-  stops_6 b = (λ e. go case_of e, second_answer b)
-    where
-      go : Case → answer ≡ stopped (Unlisted (AfterFd b)) → SecondUnlisted m pages b
-      go (is_halted_lem h) e = absurd (let z : ◌≡◌ {A = ℕ} 0 1 = cc (halted_answer h) in omega arith)
-      go (is_waiting w) e = absurd (never_both (Unlisted (AfterFd b)) (waiting_did w) e)
-      go (is_first c f) e = absurd (let z : ◌≡◌ {A = ℕ} 0 1 = cc (first_answer c f) in omega arith)
-      go (is_second c f) e = let z : c ≡ b = cc (second_answer c f) in rw z at f
-      go (is_completed d) e = absurd (never_both (Unlisted (AfterFd b)) (completed_did d) e)
+  stops_6 b = (stops (Unlisted (AfterFd b)), second_answer b)
 
   completes_did : (e : StepEnd) → IsDid e → Completes e
   completes_did (did k n kind) h = record { after = k; states = n; kind = kind; is = refl }

@@ -2,7 +2,7 @@
 use Rattle.std.proofs.Common.{◌≡◌, ℕ, ◌+◌, ◌%◌, ◌^◌, Bool, true, false, cond, ◌&&◌, ◌||◌, eqb, ◌↔◌, sym, refl, ap, ◌∙◌}
 use mathlib.Core.Bool.{or-true, or-false}
 use Rattle.arithmetic.specs.declared.record.Lh5801.{Lh5801}
-use Rattle.arithmetic.proofs.Timing.{timing, timing_request}
+use Rattle.arithmetic.specs.Record.{with_ir1, with_is_timer_reached}
 use Rattle.execution.specs.declared.Inputs.{Inputs}
 use Rattle.pages.specs.Pages.{Pages}
 use Rattle.pages.specs.Prog.{done, exec}
@@ -19,14 +19,14 @@ use Rattle.execution.proofs.StopConditions.{waiting_only}
 module _ (m : Lh5801) where
   -- the record after "Timer reached moves to IR1"
   abbrev asked : Bool → Bool → Lh5801
-  asked ir1 reached = timing m ir1 reached m.tm m.timer_state m.step_previous_state m.ticks
+  asked ir1 reached = record m { ir1 = ir1; is_timer_reached = reached }
 
   reached_fields : reached_of m ≡ asked (m.ir1 || m.is_timer_reached) false
-  unfolding reached_of
+  unfolding reached_of with_ir1 with_is_timer_reached
   reached_fields = go m.is_timer_reached refl
     where
       go : (b : Bool) → m.is_timer_reached ≡ b → cond b (moved m) m ≡ asked (m.ir1 || b) false
-      go true e = timing_request m true false ∙ ap (λ (i : Bool). asked i false) (sym (or-true m.ir1))
+      go true e = ap (λ (i : Bool). asked i false) (sym (or-true m.ir1))
       go false e = ap (asked m.ir1) e ∙ ap (λ (i : Bool). asked i false) (sym (or-false m.ir1))
 
   -- the states and the timer part after it, field by field
@@ -39,7 +39,8 @@ module _ (m : Lh5801) where
       request = m.ir1 || m.is_timer_reached
 
       after : Bool → ℕ → ℕ → Lh5801
-      after reached tm previous = timing m request reached tm (states_after m idle) previous ((m.ticks + idle) % 2 ^ 64)
+      after reached tm previous =
+          record (asked request reached) { tm = tm; timer_state = states_after m idle; step_previous_state = previous; ticks = (m.ticks + idle) % 2 ^ 64 }
 
       full : Bool
       full = eqb (shift_of m.tm) 0x1FF

@@ -3,7 +3,7 @@ use Rattle.std.specs.Prelude.{ℕ, zero, suc, Bool, true, false, cond, ◌||◌,
 use Rattle.execution.specs.declared.instructions.Listed.{Listed}
 use Rattle.std.specs.Prelude.{Option, Some, None}
 use Rattle.execution.specs.declared.instructions.Instruction.{Instruction}
-use Rattle.execution.specs.declared.instructions.Instruction.TheVariants.{Alu, Sta, Memory, Bii, Drr, Drl, Load, Compare, Inc, Dec, IncWord, DecWord, Sin, Sde, Lin, Lde, Branch, Lop, VectorIf, Vector, Jmp, Sjp, Rtn, Rti, LoadS, Tin, Cin, OnA, Sets, PopWord, PushWord, PopA, PushA, ToX, FromX, DropWord, Adr, Off, Hlt, Cdv, Nop}
+use Rattle.execution.specs.declared.instructions.Instruction.TheVariants.{Sta, Memory, Bii}
 use Rattle.execution.specs.declared.places.Place.{Place}
 use Rattle.execution.specs.declared.places.Place.TheVariants.{InHalf, Pointer, Fixed, InCode}
 use Rattle.execution.specs.Opcodes.{decoded}
@@ -30,7 +30,8 @@ passing test i (suc n) = cond (test i) (i ∷ passing test (suc i) n) (passing t
 abbrev pub bytes_where : (ℕ → Bool) → List ℕ
 bytes_where test = passing test 0 256
 
--- the places that an instruction has a meaning for: memory for ANI, ORI, ADI and BII, a half or memory for STA, any for an operation on A
+-- the places that an instruction has a meaning for: memory for ANI, ORI, ADI and BII, a half or memory for STA, any for an operation on A. The
+-- others have no place
 abbrev pub in_memory : Place → Bool
 in_memory (InHalf h) = false
 in_memory (Pointer page r) = true
@@ -44,44 +45,7 @@ can_store (Fixed page) = true
 can_store InCode = false
 
 abbrev pub place_fits : Instruction → Bool
-place_fits (Alu o place) = true
 place_fits (Sta place) = can_store place
 place_fits (Memory o place) = in_memory place
 place_fits (Bii place) = in_memory place
-place_fits (Drr page) = true
-place_fits (Drl page) = true
-place_fits (Load h) = true
-place_fits (Compare h) = true
-place_fits (Inc h) = true
-place_fits (Dec h) = true
-place_fits (IncWord r) = true
-place_fits (DecWord r) = true
-place_fits (Sin r) = true
-place_fits (Sde r) = true
-place_fits (Lin r) = true
-place_fits (Lde r) = true
-place_fits (Branch direction c) = true
-place_fits Lop = true
-place_fits (VectorIf c) = true
-place_fits (Vector nr) = true
-place_fits Jmp = true
-place_fits Sjp = true
-place_fits Rtn = true
-place_fits Rti = true
-place_fits LoadS = true
-place_fits Tin = true
-place_fits Cin = true
-place_fits (OnA o) = true
-place_fits (Sets s v) = true
-place_fits (PopWord r) = true
-place_fits (PushWord r) = true
-place_fits PopA = true
-place_fits PushA = true
-place_fits (ToX w) = true
-place_fits (FromX w) = true
-place_fits DropWord = true
-place_fits (Adr r) = true
-place_fits Off = true
-place_fits Hlt = true
-place_fits Cdv = true
-place_fits Nop = true
+place_fits i = true

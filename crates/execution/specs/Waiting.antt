@@ -1,4 +1,4 @@
--- What a waiting step leaves (document 02, F-1), field by field.
+-- What a waiting step leaves (document 02, F-1): the fields that change, and every other as it was.
 use Rattle.std.specs.Prelude.{◌≡◌, ℕ, ◌+◌, ◌-◌, ◌%◌, ◌^◌, Bool, cond, ◌&&◌, ◌||◌, [], ◌==◌, nat_le}
 use Rattle.arithmetic.specs.declared.record.Lh5801.{Lh5801}
 use Rattle.execution.specs.declared.Inputs.{Inputs}
@@ -17,23 +17,9 @@ shifts m idle = nat_le 42 ((states_after m idle + (2 ^ 64 - m.step_previous_stat
 
 -- timer reached has moved to IR1, the states are counted, and the timer part is done; every other field is as it was
 unfoldable pub waited_of : Lh5801 → ℕ → Lh5801
-waited_of m idle = record {
-  a = m.a;
-  t = m.t;
-  x = m.x;
-  y = m.y;
-  u = m.u;
-  s = m.s;
-  p = m.p;
-  is_halted = m.is_halted;
-  pu = m.pu;
-  pv = m.pv;
-  bf = m.bf;
-  disp = m.disp;
+waited_of m idle = record m {
   tm = cond (shifts m idle) (shift_of m.tm) m.tm;
-  ir0 = m.ir0;
   ir1 = m.ir1 || m.is_timer_reached;
-  ir2 = m.ir2;
   is_timer_reached = shifts m idle && (shift_of m.tm == 0x1FF);
   timer_state = states_after m idle;
   step_previous_state = cond (shifts m idle) (states_after m idle) m.step_previous_state;

@@ -10,11 +10,7 @@ use Rattle.pages.proofs.Pages.{long_refl, long_trans, store_long, stored_long, a
 -- a program after another: the second goes on from the first's answer and pages, and its accesses come after
 pub exec_bind : {A B : Type 0} (p : Prog A) (f : A → Prog B) (m : Pages)
     → exec (p >>= f) m
-    ≡ record {
-      answer = (exec (f (exec p m).answer) (exec p m).pages).answer;
-      pages = (exec (f (exec p m).answer) (exec p m).pages).pages;
-      accesses = (exec p m).accesses ++ (exec (f (exec p m).answer) (exec p m).pages).accesses;
-    }
+    ≡ (let r = exec (f (exec p m).answer) (exec p m).pages in record r { accesses = (exec p m).accesses ++ r.accesses })
 unfolding ◌>>=◌ exec after
 exec_bind (done a) f m = refl
 exec_bind (get a k) f m = ap (after (read_of a (at m a))) (exec_bind (k (at m a)) f m)

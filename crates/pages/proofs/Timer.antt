@@ -3,9 +3,8 @@ use Rattle.std.proofs.Common.{◌≡◌, ℕ, ◌+◌, ◌-◌, ◌/◌, ◌%◌
 use lib.Bits.{bit_xor}
 use borrow.Author.Tests.{lt-leb}
 use Rattle.arithmetic.specs.declared.record.Lh5801.{Lh5801}
-use Rattle.arithmetic.specs.Record.{with_tm, with_timer_state, with_step_previous_state}
+use Rattle.arithmetic.specs.Record.{with_tm, with_is_timer_reached, with_timer_state, with_step_previous_state, with_ticks}
 use Rattle.arithmetic.proofs.Status.{Status, status_of, with_timer, status_with_ticks, keeps_previous, keeps_states, status_tm, status_reached, status_ticks}
-use Rattle.arithmetic.proofs.Timing.{timing, timing_states, timing_shift}
 use Rattle.arithmetic.proofs.Compute.{both, both_left, both_right, every, test_at}
 use Rattle.pages.specs.Timer.{shift_of, timer_inc_of, add_state_of, passed_of, timer_part_of}
 
@@ -99,13 +98,11 @@ module _ (m : Lh5801) (n : ℕ) where
   later = (m.ticks + n) % 2 ^ 64
 
   abbrev counted : Lh5801
-  counted = timing m m.ir1 m.is_timer_reached m.tm now m.step_previous_state later
+  counted = record m { timer_state = now; ticks = later }
 
   abbrev shifted : Lh5801
-  shifted = timing m m.ir1 (eqb (shift_of m.tm) 0x1FF) (shift_of m.tm) now now later
+  shifted = record counted { tm = shift_of m.tm; is_timer_reached = eqb (shift_of m.tm) 0x1FF; step_previous_state = now }
 
   pub elapsed : timer_part_of (add_state_of m n) ≡ cond (leb 42 ((now + (2 ^ 64 - m.step_previous_state)) % 2 ^ 64)) shifted counted
-  unfolding add_state_of timer_part_of timer_inc_of passed_of
-  elapsed =
-      ap timer_part_of (timing_states m now later)
-      ∙ ap (λ (k : Lh5801). cond (leb 42 (passed_of counted)) k counted) (timing_shift counted (shift_of m.tm) now (eqb (shift_of m.tm) 0x1FF))
+  unfolding add_state_of timer_part_of timer_inc_of passed_of with_tm with_is_timer_reached with_timer_state with_step_previous_state with_ticks
+  elapsed = refl

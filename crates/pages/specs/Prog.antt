@@ -37,7 +37,7 @@ pub record Ran (A : Type 0) : Type 0 where
   pub accesses : List Access
 
 unfoldable pub after : {A : Type 0} → Access → Ran A → Ran A
-after x r = record { answer = r.answer; pages = r.pages; accesses = x ∷ r.accesses }
+after x r = record r { accesses = x ∷ r.accesses }
 
 unfoldable pub exec : {A : Type 0} → Prog A → Pages → Ran A
 exec (done a) m = record { answer = a; pages = m; accesses = [] }

@@ -1,5 +1,5 @@
 -- Whether a call is accepted: which condition gives which end.
-use Rattle.std.proofs.Common.{◌≡◌, ℕ, ◌<◌, ◌≤◌, cond, ◌||◌, eqb, ltb, length, inl, inr, ⊎_elim, arith, le-ltb, lt-ltb, eq-eqb, ne_eqb}
+use Rattle.std.proofs.Common.{◌≡◌, ℕ, ◌<◌, ◌≤◌, cond, ◌||◌, eqb, ltb, length, inl, inr, ⊎_elim, true≢false, arith, le-ltb, lt-ltb, eq-eqb, ne_eqb}
 use Rattle.std.specs.Prelude.{Option, None, Some}
 use native.Mathlib.Decide.{dec_lt, ℕ_discrete}
 use Rattle.arithmetic.specs.declared.record.Lh5801.{Lh5801}
@@ -76,7 +76,7 @@ module _ (s : Settings) (m : Lh5801) (p : Pages) where
   accepted_by e = go acceptance_case
     where
       never : {x : End} → not_accepted s m p ≡ Some x → Accepted s m p
-      never f = absurd (let z : ◌≡◌ {A = ℕ} 0 1 = cc in omega arith)
+      never f = absurd (true≢false cc)
 
       go : Acceptance → Accepted s m p
       go (page0 a) = never (acceptance_page0 a)

@@ -1,5 +1,5 @@
 -- Every run call: its pages, its steps, its stops and its states.
-use Rattle.std.proofs.Common.{◌≡◌, ℕ, ◌*◌, ◌<◌, ◌≤◌, ◌↔◌, List, sym, refl, ap, ◌∙◌, arith}
+use Rattle.std.proofs.Common.{◌≡◌, ℕ, ◌*◌, ◌<◌, ◌≤◌, ◌↔◌, List, sym, refl, ap, ◌∙◌, true≢false, arith}
 use Rattle.std.specs.Prelude.{Option}
 use Rattle.arithmetic.specs.declared.record.Lh5801.{Lh5801}
 use Rattle.execution.specs.declared.Inputs.{Inputs}
@@ -16,7 +16,7 @@ use Rattle.execution.specs.Conditions.{HaltedStop, FirstUnlisted, SecondUnlisted
 use Rattle.execution.proofs.StopConditions.{stops_5, stops_6, stops_7}
 use Rattle.run.specs.declared.Settings.{Settings}
 use Rattle.run.specs.declared.End.{End}
-use Rattle.run.specs.declared.End.TheVariants.{AllSteps, Page0Length, Page1Length, TimerValue, Limit, LogFull, Step}
+use Rattle.run.specs.declared.End.TheVariants.{AllSteps, LogFull, Step}
 use Rattle.run.specs.Acceptance.{end_number, end_byte, Accepted}
 use Rattle.run.specs.BusLog.{free_after, Full, NotFull}
 use Rattle.run.specs.Run.{CallResult, call_result, writes_of, no_step, one_step, run_of, call_of, call_number, call_byte}
@@ -74,16 +74,16 @@ module _ (s : Settings) (free : Option ℕ) (m : Lh5801) (p : Pages) (h : Accept
     where
       go : {o : CallResult} → Ended s.inputs s.limit free o → (o.answer.end ≡ AllSteps) ↔ (o.answer.steps ≡ s.limit)
       go (all e i) = (λ x. i, λ x. e)
-      go (none_free e i f) = (λ a. absurd (let z : ◌≡◌ {A = ℕ} 0 1 = cc in omega arith), λ a. absurd (omega arith))
-      go (early t e i x) = (λ a. absurd (let z : ◌≡◌ {A = ℕ} 0 1 = cc in omega arith), λ a. absurd (omega arith))
+      go (none_free e i f) = (λ a. absurd (true≢false cc), λ a. absurd (omega arith))
+      go (early t e i x) = (λ a. absurd (true≢false cc), λ a. absurd (omega arith))
 
   full_ends : (call_of s free m p).answer.end ≡ LogFull → ((call_of s free m p).answer.steps < s.limit) × Full (free_after free (call_of s free m p).bus)
   full_ends = go call_ended
     where
       go : {o : CallResult} → Ended s.inputs s.limit free o → o.answer.end ≡ LogFull → (o.answer.steps < s.limit) × Full (free_after free o.bus)
-      go (all e i) a = absurd (let z : ◌≡◌ {A = ℕ} 0 1 = cc in omega arith)
+      go (all e i) a = absurd (true≢false cc)
       go (none_free e i f) a = (i, f)
-      go (early y e i b) a = absurd (let z : ◌≡◌ {A = ℕ} 0 1 = cc in omega arith)
+      go (early y e i b) a = absurd (true≢false cc)
 
   stopping : {x : Stop} → (call_of s free m p).answer.end ≡ Step x
       → ((call_of s free m p).answer.steps < s.limit)
@@ -92,8 +92,8 @@ module _ (s : Settings) (free : Option ℕ) (m : Lh5801) (p : Pages) (h : Accept
     where
       go : {o : CallResult} → Ended s.inputs s.limit free o → o.answer.end ≡ Step x
           → (o.answer.steps < s.limit) × StopsWith s.inputs x (free_after free o.bus) o.answer.cpu o.pages
-      go (all e i) a = absurd (let z : ◌≡◌ {A = ℕ} 0 1 = cc in omega arith)
-      go (none_free e i f) a = absurd (let z : ◌≡◌ {A = ℕ} 0 1 = cc in omega arith)
+      go (all e i) a = absurd (true≢false cc)
+      go (none_free e i f) a = absurd (true≢false cc)
       go (early y e i b) a = let z : y ≡ x = cc in (i, rw (← z) b)
 
   -- the call's own steps come to what holds at its end
@@ -178,22 +178,13 @@ module _ (s : Settings) (free : Option ℕ) (m : Lh5801) (p : Pages) where
 
 -- the end of a stop, and that of a full log, are known by number and byte
 stop_end : (e : End) (x : Stop) → end_number e ≡ stop_number x → end_byte e ≡ stop_byte x → e ≡ Step x
-stop_end AllSteps x i j = absurd (omega (arith, stop_least x))
-stop_end Page0Length x i j = absurd (omega (arith, stop_least x))
-stop_end Page1Length x i j = absurd (omega (arith, stop_least x))
-stop_end TimerValue x i j = absurd (omega (arith, stop_least x))
-stop_end Limit x i j = absurd (omega (arith, stop_least x))
-stop_end LogFull x i j = absurd (omega (arith, stop_most x))
 stop_end (Step y) x i j = ap Step (stop_same y x i j)
+stop_end e x i j = absurd (omega (arith, stop_least x, stop_most x))
 
 full_end : (e : End) → end_number e ≡ 11 → e ≡ LogFull
-full_end AllSteps i = absurd (omega arith)
-full_end Page0Length i = absurd (omega arith)
-full_end Page1Length i = absurd (omega arith)
-full_end TimerValue i = absurd (omega arith)
-full_end Limit i = absurd (omega arith)
 full_end LogFull i = refl
 full_end (Step y) i = absurd (omega (arith, stop_most y))
+full_end e i = absurd (omega arith)
 
 -- a number above 4, of every call: only an accepted one gives it
 module _ (s : Settings) (free : Option ℕ) (m : Lh5801) (p : Pages) where

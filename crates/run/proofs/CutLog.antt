@@ -1,5 +1,5 @@
 -- The log of a call: what stands in the list and how many entries are used, when it is full, and a run cut into calls.
-use Rattle.std.proofs.Common.{◌≡◌, ℕ, ◌+◌, ◌-◌, ◌<◌, ◌≤◌, Bool, false, ◌⊎◌, ◌↔◌, List, [], ◌∷◌, ◌++◌, map, length, take, drop, refl, ap, ◌∙◌, inl, ⊎_elim, add-zero, arith, length-append, ltb-false, ltb-true, lt-ltb}
+use Rattle.std.proofs.Common.{◌≡◌, ℕ, ◌+◌, ◌-◌, ◌<◌, ◌≤◌, Bool, false, ◌⊎◌, ◌↔◌, List, [], ◌∷◌, ◌++◌, map, length, take, drop, refl, ap, ◌∙◌, inl, ⊎_elim, add-zero, true≢false, arith, length-append, ltb-false, ltb-true, lt-ltb}
 use Rattle.std.specs.Prelude.{Option, None, Some}
 use Rattle.arithmetic.specs.declared.record.Lh5801.{Lh5801}
 use Rattle.execution.specs.declared.Inputs.{Inputs}
@@ -26,8 +26,8 @@ pub full_iff : (log : Option Log)
     → Full (free_in log) ↔ ((x : Log) × ((log ≡ Some x) × ((length x.entries - x.used < 7) ⊎ (length x.entries < x.used))))
 unfolding free_in
 full_iff None = (
-  λ f. absurd (let z : ◌≡◌ {A = ℕ} 0 1 = cc in omega arith),
-  λ r. absurd (let z : ◌≡◌ {A = ℕ} 0 1 = let e = r.1.0 in cc in omega arith),
+  λ f. absurd (true≢false cc),
+  λ r. absurd (true≢false (cc r.1.0)),
 )
 full_iff (Some log) = (
   λ f. (log, (refl, inl (ltb-true (length log.entries - log.used) 7 f))),

@@ -1,5 +1,5 @@
 -- The steps of a call with a log: before each the log is looked at and its accesses are appended, and then it is done alone, as without a log.
-use Rattle.std.proofs.Common.{◌≡◌, ℕ, ◌+◌, ◌*◌, ◌<◌, ◌≤◌, List, [], ◌++◌, sym, refl, ap, ◌∙◌, append-nil, arith, subst}
+use Rattle.std.proofs.Common.{◌≡◌, ℕ, ◌+◌, ◌*◌, ◌<◌, ◌≤◌, List, [], ◌++◌, sym, refl, ap, ◌∙◌, append-nil, true≢false, arith, subst}
 use Rattle.std.specs.Prelude.{None, Some}
 use Rattle.arithmetic.specs.declared.record.Lh5801.{Lh5801}
 use Rattle.execution.specs.declared.Inputs.{Inputs}
@@ -132,7 +132,7 @@ module _ {s : Settings} {before : BusLog} {first : Lh5801} {l : Memory} {a : Ans
           part_stops : Ended s.inputs 1 None part → part.answer.steps ≡ 0
               → call ≡ call_result part.answer.end (a.steps + part.answer.steps) (a.states + part.answer.states) part.answer.cpu part.pages (g.bus ++ part.bus)
           part_stops (all e i) k = absurd (omega arith)
-          part_stops (none_free e i x) k = absurd (let y : ◌≡◌ {A = ℕ} 0 1 = cc in omega arith)
+          part_stops (none_free e i x) k = absurd (true≢false cc)
           part_stops (early x e i y) k =
               reaches_stop s.limit (reaches_all g.reached (reaches_logged clear (omega arith) part_reaches)) (omega (arith, k))
               (rw ((reaches_none part_reaches k).3, append-nil) clear, y.1)

@@ -1,5 +1,5 @@
 -- What the loop of a call without a log keeps, and how a step, a stop and the limit go on from it.
-use Rattle.std.proofs.Common.{◌≡◌, ℕ, ◌+◌, ◌<◌, ◌≤◌, true, List, [], ◌++◌, sym, refl, ap, ◌∙◌, subst, arith}
+use Rattle.std.proofs.Common.{◌≡◌, ℕ, ◌+◌, ◌<◌, ◌≤◌, true, List, [], ◌++◌, sym, refl, ap, ◌∙◌, subst, true≢false, arith}
 use Rattle.std.specs.Prelude.{None, Some, Result, Ok, Err}
 use Rattle.arithmetic.specs.declared.record.Lh5801.{Lh5801}
 use Rattle.execution.specs.declared.Inputs.{Inputs}
@@ -71,10 +71,10 @@ did_outcome : (e : StepEnd) {k : Lh5801} (P : Lh5801 → Type 0) → Ok k ≡ ou
     → ((s : ℕ) (kind : Kind) (l : Lh5801) → e ≡ did l s kind → P l)
     → P k
 did_outcome (did l s kind) {k} P h f = let z : l ≡ k = cc in subst P z (f s kind l refl)
-did_outcome (stopped x) P h f = absurd (let z : ◌≡◌ {A = ℕ} 0 1 = cc in omega arith)
+did_outcome (stopped x) P h f = absurd (true≢false cc)
 
 stop_outcome : (e : StepEnd) {s : Stop} → Err s ≡ outcome_of e → e ≡ stopped s
-stop_outcome (did l t kind) h = absurd (let z : ◌≡◌ {A = ℕ} 0 1 = cc in omega arith)
+stop_outcome (did l t kind) h = absurd (true≢false cc)
 stop_outcome (stopped x) {s} h = let z : x ≡ s = cc in ap stopped z
 
 -- a step that stops leaves the pages

@@ -7,7 +7,7 @@ use Rattle.pages.specs.Pages.{Pages}
 use Rattle.execution.proofs.Stops.{stop_least, stop_most, stop_byte_0}
 use Rattle.run.specs.declared.Settings.{Settings}
 use Rattle.run.specs.declared.End.{End}
-use Rattle.run.specs.declared.End.TheVariants.{AllSteps, Page0Length, Page1Length, TimerValue, Limit, LogFull, Step}
+use Rattle.run.specs.declared.End.TheVariants.{Step}
 use Rattle.run.specs.Acceptance.{end_number, end_byte, Page0TooLong, Page1TooLong, TimerTooLarge, LimitOut, Accepted}
 use Rattle.run.specs.Run.{no_step, completed, run_of, call_of, call_number, Refused}
 use Rattle.run.proofs.Steps.{run_each}
@@ -15,23 +15,13 @@ use Rattle.run.proofs.Acceptance.{Acceptance, page0, page1, timer, limit, accept
 
 -- "The byte returned is 0 unless the number is 5 or 6"
 pub byte_0 : (e : End) → ¬ (end_number e ≡ 5) → ¬ (end_number e ≡ 6) → end_byte e ≡ 0
-byte_0 AllSteps a b = refl
-byte_0 Page0Length a b = refl
-byte_0 Page1Length a b = refl
-byte_0 TimerValue a b = refl
-byte_0 Limit a b = refl
-byte_0 LogFull a b = refl
 byte_0 (Step s) a b = stop_byte_0 s a b
+byte_0 e a b = refl
 
 -- there is no number above 11
 pub number_most : (e : End) → end_number e ≤ 11
-number_most AllSteps = omega arith
-number_most Page0Length = omega arith
-number_most Page1Length = omega arith
-number_most TimerValue = omega arith
-number_most Limit = omega arith
-number_most LogFull = omega arith
 number_most (Step s) = omega (arith, stop_most s)
+number_most e = omega arith
 
 run_number : (n : ℕ) (inputs : Inputs) (free : Option ℕ) (m : Lh5801) (p : Pages)
     → (end_number (run_of n inputs free m p).answer.end ≡ 0) ⊎ (5 ≤ end_number (run_of n inputs free m p).answer.end)

@@ -19,13 +19,8 @@ end_number (Step s) = stop_number s
 
 -- and its byte
 abbrev pub end_byte : End → ℕ
-end_byte AllSteps = 0
-end_byte Page0Length = 0
-end_byte Page1Length = 0
-end_byte TimerValue = 0
-end_byte Limit = 0
-end_byte LogFull = 0
 end_byte (Step s) = stop_byte s
+end_byte end = 0
 
 -- the conditions of 1 to 4
 abbrev pub Page0TooLong : Pages → Type 0

@@ -5,17 +5,17 @@ use Rattle.std.specs.Prelude.{◌≡◌, Bool, true, false, cond, not, ◌&&◌,
 use Rattle.arithmetic.specs.declared.record.Lh5801.{Lh5801}
 use Rattle.arithmetic.specs.Flags.{IE, has_flag}
 use Rattle.execution.specs.declared.instructions.Accumulator.{Accumulator}
-use Rattle.execution.specs.declared.instructions.Accumulator.TheVariants.{IncA, DecA, Ror, Shr, Shl, Rol, Aex, Tta, Att, Ita, Am0, Am1}
+use Rattle.execution.specs.declared.instructions.Accumulator.TheVariants.{Att}
 use Rattle.execution.specs.declared.instructions.Signal.{Signal}
-use Rattle.execution.specs.declared.instructions.Signal.TheVariants.{Pu, Pv, Disp, CarryFlag, InterruptEnable}
+use Rattle.execution.specs.declared.instructions.Signal.TheVariants.{InterruptEnable}
 use Rattle.execution.specs.declared.instructions.Instruction.{Instruction}
-use Rattle.execution.specs.declared.instructions.Instruction.TheVariants.{Alu, Sta, Memory, Bii, Drr, Drl, Load, Compare, Inc, Dec, IncWord, DecWord, Sin, Sde, Lin, Lde, Branch, Lop, VectorIf, Vector, Jmp, Sjp, Rtn, Rti, LoadS, Tin, Cin, OnA, Sets, PopWord, PushWord, PopA, PushA, ToX, FromX, DropWord, Adr, Off, Hlt, Cdv, Nop}
+use Rattle.execution.specs.declared.instructions.Instruction.TheVariants.{Rti, OnA, Sets, Off, Hlt}
 use Rattle.execution.specs.declared.instructions.Listed.{Listed}
 use Rattle.std.specs.Prelude.{Option, Some, None, Result, Ok, Err}
 use Rattle.execution.specs.declared.Executed.{Executed}
 use Rattle.execution.specs.declared.Executed.TheVariants.{Again, Completed}
 use Rattle.execution.specs.declared.Stop.{Stop}
-use Rattle.execution.specs.Step.{Kind, off, held, interrupt, waiting, instruction, StepEnd, did, stopped, decoded_by}
+use Rattle.execution.specs.Step.{Kind, instruction, StepEnd, did, stopped, decoded_by}
 
 -- BF set, and neither IR0, nor with IE a request or timer reached, nor halted
 abbrev pub due_by : Bool → Bool → Bool → Bool → Bool → Bool → Bool → Bool
@@ -32,69 +32,21 @@ pub record Ready (m : Lh5801) : Type 0 where
 
 -- on A: ATT sets all of T
 abbrev pub settled_on_a : Accumulator → Bool
-settled_on_a IncA = true
-settled_on_a DecA = true
-settled_on_a Ror = true
-settled_on_a Shr = true
-settled_on_a Shl = true
-settled_on_a Rol = true
-settled_on_a Aex = true
-settled_on_a Tta = true
 settled_on_a Att = false
-settled_on_a Ita = true
-settled_on_a Am0 = true
-settled_on_a Am1 = true
+settled_on_a o = true
 
 abbrev pub settled_signal : Signal → Bool
-settled_signal Pu = true
-settled_signal Pv = true
-settled_signal Disp = true
-settled_signal CarryFlag = true
 settled_signal InterruptEnable = false
+settled_signal s = true
 
--- an instruction that changes neither BF nor halted nor IE. No instruction changes IR0, IR1, IR2 or timer reached
+-- an instruction that changes neither BF nor halted nor IE: all but these. No instruction changes IR0, IR1, IR2 or timer reached
 abbrev pub settled_of : Instruction → Bool
-settled_of (Alu o place) = true
-settled_of (Sta place) = true
-settled_of (Memory o place) = true
-settled_of (Bii place) = true
-settled_of (Drr page) = true
-settled_of (Drl page) = true
-settled_of (Load h) = true
-settled_of (Compare h) = true
-settled_of (Inc h) = true
-settled_of (Dec h) = true
-settled_of (IncWord r) = true
-settled_of (DecWord r) = true
-settled_of (Sin r) = true
-settled_of (Sde r) = true
-settled_of (Lin r) = true
-settled_of (Lde r) = true
-settled_of (Branch direction c) = true
-settled_of Lop = true
-settled_of (VectorIf c) = true
-settled_of (Vector nr) = true
-settled_of Jmp = true
-settled_of Sjp = true
-settled_of Rtn = true
 settled_of Rti = false
-settled_of LoadS = true
-settled_of Tin = true
-settled_of Cin = true
 settled_of (OnA o) = settled_on_a o
 settled_of (Sets s v) = settled_signal s
-settled_of (PopWord r) = true
-settled_of (PushWord r) = true
-settled_of PopA = true
-settled_of PushA = true
-settled_of (ToX w) = true
-settled_of (FromX w) = true
-settled_of DropWord = true
-settled_of (Adr r) = true
 settled_of Off = false
 settled_of Hlt = false
-settled_of Cdv = true
-settled_of Nop = true
+settled_of i = true
 
 -- a byte that decodes to such an instruction
 abbrev pub settled_by : Option Listed → Bool
@@ -103,11 +55,8 @@ settled_by None = false
 
 -- how the step of a due instruction ends: after a settled instruction that did not reach 1FF an instruction is due again
 abbrev pub executed_as : Kind → Lh5801 → Executed
-executed_as off m = Completed m
-executed_as held m = Completed m
-executed_as (interrupt vector) m = Completed m
-executed_as waiting m = Completed m
 executed_as (instruction opcode) m = cond (settled_by (decoded_by opcode) && not m.is_timer_reached) (Again m) (Completed m)
+executed_as kind m = Completed m
 
 abbrev pub executed_of : StepEnd → Result Executed Stop
 executed_of (did m states kind) = Ok (executed_as kind m)

@@ -1,5 +1,5 @@
 -- A file that is accepted is the file of what was read, and that is within its bounds.
-use Rattle.std.proofs.Common.{◌≡◌, ℕ, zero, suc, ◌+◌, ◌*◌, ◌/◌, ◌%◌, ◌<◌, ◌≤◌, Bool, true, false, cond, not, eqb, leb, List, [], ◌∷◌, ◌++◌, length, take, drop, sym, refl, ap, ◌∙◌, subst, ap₂, subst₂, append_assoc, append-nil, arith, length-drop, take-append-drop, drop_of_length-le, length-take-le, drop-drop, le-ltb, lt-ltb, ne_eqb, leb-false, leb-true}
+use Rattle.std.proofs.Common.{◌≡◌, ℕ, zero, suc, ◌+◌, ◌*◌, ◌/◌, ◌%◌, ◌<◌, ◌≤◌, Bool, true, false, cond, not, eqb, leb, List, [], ◌∷◌, ◌++◌, length, take, drop, sym, refl, ap, ◌∙◌, subst, ap₂, subst₂, append_assoc, append-nil, true≢false, arith, length-drop, take-append-drop, drop_of_length-le, length-take-le, drop-drop, le-ltb, lt-ltb, ne_eqb, leb-false, leb-true}
 use borrow.Author.Tests.{eqb-false}
 use Rattle.run.specs.RecordNumbers.{record_of, AllWithin}
 use Rattle.run.specs.CampaignFile.{Groups, ends, over, whole, group, groups, groups_of, Field, read, refused, shortest_of, number_of, number_bytes, numbers_bytes, page_bytes, Bytes}
@@ -26,8 +26,8 @@ record Split (byte : ℕ) (rest : Groups) (value count last : ℕ) : Type 0 wher
   count_is : count ≡ suc n
 
 split : (byte : ℕ) (rest : Groups) (value count last : ℕ) → group byte rest ≡ whole value count last → Split byte rest value count last
-split byte ends value count last e = absurd (let z : ◌≡◌ {A = ℕ} 0 1 = cc in omega arith)
-split byte over value count last e = absurd (let z : ◌≡◌ {A = ℕ} 0 1 = cc in omega arith)
+split byte ends value count last e = absurd (true≢false cc)
+split byte over value count last e = absurd (true≢false cc)
 split byte (whole v n k) value count last e = record {
   v = v;
   n = n;
@@ -38,8 +38,8 @@ split byte (whole v n k) value count last e = record {
 
 -- the last group is part of the value
 last_below : (left : ℕ) (l : List ℕ) (value count last : ℕ) → groups left l ≡ whole value count last → last ≤ value
-last_below zero l value count last e = absurd (let z : ◌≡◌ {A = ℕ} 0 1 = cc in omega arith)
-last_below (suc left) [] value count last e = absurd (let z : ◌≡◌ {A = ℕ} 0 1 = cc in omega arith)
+last_below zero l value count last e = absurd (true≢false cc)
+last_below (suc left) [] value count last e = absurd (true≢false cc)
 last_below (suc left) (byte ∷ l) value count last e = test (leb 128 byte) e (λ v n. last_below left l v n last)
   where
     test : (t : Bool) → cond t (group byte (groups left l)) (whole byte 1 byte) ≡ whole value count last
@@ -55,13 +55,13 @@ shortest_last : (count last : ℕ) → 2 ≤ count → shortest_of count last �
 shortest_last count last h e = go (eqb last 0) refl (rw (ne_eqb count 1 (omega arith)) at e)
   where
     go : (t : Bool) → eqb last 0 ≡ t → not (eqb last 0) ≡ true → 1 ≤ last
-    go true is e = absurd (let z : ◌≡◌ {A = ℕ} 0 1 = cc in omega arith)
+    go true is e = absurd (true≢false cc)
     go false is e = let z = eqb-false last 0 is in omega arith
 
 groups_only : (left : ℕ) (l : List ℕ) (value count last : ℕ) → Bytes l → groups left l ≡ whole value count last → shortest_of count last ≡ true
     → l ≡ groups_of left value ++ drop count l
-groups_only zero l value count last bs e short = absurd (let z : ◌≡◌ {A = ℕ} 0 1 = cc in omega arith)
-groups_only (suc left) [] value count last bs e short = absurd (let z : ◌≡◌ {A = ℕ} 0 1 = cc in omega arith)
+groups_only zero l value count last bs e short = absurd (true≢false cc)
+groups_only (suc left) [] value count last bs e short = absurd (true≢false cc)
 groups_only (suc left) (byte ∷ l) value count last bs e short =
     test (leb 128 byte) refl e (λ v n. groups_only left l v n last bs.1)
   where

@@ -1,12 +1,12 @@
 -- What a number that was read says: its groups, its bounds and its next place.
-use Rattle.std.proofs.Common.{◌≡◌, ℕ, zero, suc, ◌+◌, ◌-◌, ◌<◌, ◌≤◌, Bool, true, false, cond, ◌&&◌, eqb, leb, List, [], ◌∷◌, length, drop, sym, refl, ap, ◌∙◌, arith, length-drop, ne_eqb, leb-true}
+use Rattle.std.proofs.Common.{◌≡◌, ℕ, zero, suc, ◌+◌, ◌-◌, ◌<◌, ◌≤◌, Bool, true, false, cond, ◌&&◌, eqb, leb, List, [], ◌∷◌, length, drop, sym, refl, ap, ◌∙◌, true≢false, arith, length-drop, ne_eqb, leb-true}
 use mathlib.Core.Bool.{and-eq-true_iff, or-true}
 use Rattle.run.specs.CampaignFile.{Groups, ends, over, whole, group, groups, Field, read, refused, shortest_of, number_from, number_of}
 use Rattle.run.specs.declared.campaign_file.Refusal.TheVariants.{Ends, Unfit}
 
 -- two different answers
 pub never : {A B : Type 0} {a : A} {n : ℕ} {f : Field A} (r : _) → f ≡ read a n → f ≡ refused r → B
-never {A} {B} {a} {n} {f} r p q = absurd (let z : ◌≡◌ {A = ℕ} 0 1 = cc in omega arith)
+never {A} {B} {a} {n} {f} r p q = absurd (true≢false cc)
 
 pub read_same : {A : Type 0} {a b : A} {m n : ℕ} → read a m ≡ read b n → (a ≡ b) × (m ≡ n)
 read_same e = (cc, cc)
@@ -50,15 +50,15 @@ number_read greatest bytes at value next e = go (groups 10 (drop at bytes)) refl
 
 -- a number's groups are bytes of the file
 pub groups_within : (left : ℕ) (l : List ℕ) (value count last : ℕ) → groups left l ≡ whole value count last → (1 ≤ count) × (count ≤ length l)
-groups_within zero l value count last e = absurd (let z : ◌≡◌ {A = ℕ} 0 1 = cc in omega arith)
-groups_within (suc left) [] value count last e = absurd (let z : ◌≡◌ {A = ℕ} 0 1 = cc in omega arith)
+groups_within zero l value count last e = absurd (true≢false cc)
+groups_within (suc left) [] value count last e = absurd (true≢false cc)
 groups_within (suc left) (byte ∷ l) value count last e = test (leb 128 byte) e (groups left l) refl (λ v c. groups_within left l v c last)
   where
     test : (t : Bool) → cond t (group byte (groups left l)) (whole byte 1 byte) ≡ whole value count last → (g : Groups) → groups left l ≡ g
         → ((v c : ℕ) → groups left l ≡ whole v c last → (1 ≤ c) × (c ≤ length l)) → (1 ≤ count) × (count ≤ suc (length l))
     test false e g is rest = let one : 1 ≡ count = cc in omega arith
-    test true e ends is rest = absurd (let z : ◌≡◌ {A = ℕ} 0 1 = cc (ap (group byte) is) in omega arith)
-    test true e over is rest = absurd (let z : ◌≡◌ {A = ℕ} 0 1 = cc (ap (group byte) is) in omega arith)
+    test true e ends is rest = absurd (true≢false (cc (ap (group byte) is)))
+    test true e over is rest = absurd (true≢false (cc (ap (group byte) is)))
     test true e (whole v c k) is rest =
         let whole_is : group byte (whole v c k) ≡ whole value count last = ap (group byte) (sym is) ∙ e in
         let same : suc c ≡ count = cc in

@@ -1,5 +1,5 @@
 -- A file is turned down exactly for the reasons of `TurnedDown`, at the offset that the refusal names.
-use Rattle.std.proofs.Common.{◌≡◌, ℕ, zero, suc, ◌+◌, ◌-◌, ◌<◌, ◌≤◌, Bool, true, false, cond, not, ◌&&◌, ◌||◌, eqb, ltb, leb, ◌⊎◌, List, [], ◌∷◌, ◌++◌, map, length, get_or, drop, sym, refl, ap, ◌∙◌, subst, inl, inr, arith, length-drop, get_or-drop, ltb-false, ltb-true, le-ltb, lt-ltb, ne_eqb, eqb-true, le-leb, leb-false, leb-true}
+use Rattle.std.proofs.Common.{◌≡◌, ℕ, zero, suc, ◌+◌, ◌-◌, ◌<◌, ◌≤◌, Bool, true, false, cond, not, ◌&&◌, ◌||◌, eqb, ltb, leb, ◌⊎◌, List, [], ◌∷◌, ◌++◌, map, length, get_or, drop, sym, refl, ap, ◌∙◌, subst, inl, inr, true≢false, arith, length-drop, get_or-drop, ltb-false, ltb-true, le-ltb, lt-ltb, ne_eqb, eqb-true, le-leb, leb-false, leb-true}
 use mathlib.Core.Bool.{and-false}
 use borrow.Author.Tests.{eqb-false, lt-leb}
 use Rattle.run.specs.CampaignFile.{Groups, ends, over, whole, group, groups, Field, read, refused, Reader, and_then, ◌>>=◌, given, shortest_of, number_from, number_of}
@@ -16,13 +16,13 @@ use Rattle.run.proofs.CampaignFile.Groups.{lt_or_ge}
 
 group_ends : (byte : ℕ) (g : Groups) → group byte g ≡ ends → g ≡ ends
 group_ends byte ends e = refl
-group_ends byte over e = absurd (let z : ◌≡◌ {A = ℕ} 0 1 = cc in omega arith)
-group_ends byte (whole v n k) e = absurd (let z : ◌≡◌ {A = ℕ} 0 1 = cc in omega arith)
+group_ends byte over e = absurd (true≢false cc)
+group_ends byte (whole v n k) e = absurd (true≢false cc)
 
 group_over : (byte : ℕ) (g : Groups) → group byte g ≡ over → g ≡ over
-group_over byte ends e = absurd (let z : ◌≡◌ {A = ℕ} 0 1 = cc in omega arith)
+group_over byte ends e = absurd (true≢false cc)
 group_over byte over e = refl
-group_over byte (whole v n k) e = absurd (let z : ◌≡◌ {A = ℕ} 0 1 = cc in omega arith)
+group_over byte (whole v n k) e = absurd (true≢false cc)
 
 -- the first bytes of a list have their top bit set
 abbrev Continued : ℕ → List ℕ → Type 0
@@ -33,7 +33,7 @@ one_more n byte l h rest zero g = h
 one_more n byte l h rest (suc i) g = rest i (omega arith)
 
 groups_ends : (left : ℕ) (l : List ℕ) → groups left l ≡ ends → (length l < left) × Continued (length l) l
-groups_ends zero l e = absurd (let z : ◌≡◌ {A = ℕ} 0 1 = cc in omega arith)
+groups_ends zero l e = absurd (true≢false cc)
 groups_ends (suc left) [] e = (omega arith, λ i h. absurd (omega arith))
 groups_ends (suc left) (byte ∷ l) e = test (leb 128 byte) refl e (groups_ends left l)
   where
@@ -42,11 +42,11 @@ groups_ends (suc left) (byte ∷ l) e = test (leb 128 byte) refl e (groups_ends 
     test true is e rest =
         let r = rest (group_ends byte (groups left l) e) in
         (omega arith, one_more (length l) byte l (leb-true 128 byte is) r.1)
-    test false is e rest = absurd (let z : ◌≡◌ {A = ℕ} 0 1 = cc in omega arith)
+    test false is e rest = absurd (true≢false cc)
 
 groups_over : (left : ℕ) (l : List ℕ) → groups left l ≡ over → (left ≤ length l) × Continued left l
 groups_over zero l e = (omega arith, λ i h. absurd (omega arith))
-groups_over (suc left) [] e = absurd (let z : ◌≡◌ {A = ℕ} 0 1 = cc in omega arith)
+groups_over (suc left) [] e = absurd (true≢false cc)
 groups_over (suc left) (byte ∷ l) e = test (leb 128 byte) refl e (groups_over left l)
   where
     test : (t : Bool) → leb 128 byte ≡ t → cond t (group byte (groups left l)) (whole byte 1 byte) ≡ over
@@ -54,7 +54,7 @@ groups_over (suc left) (byte ∷ l) e = test (leb 128 byte) refl e (groups_over 
     test true is e rest =
         let r = rest (group_over byte (groups left l) e) in
         (omega arith, one_more left byte l (leb-true 128 byte is) r.1)
-    test false is e rest = absurd (let z : ◌≡◌ {A = ℕ} 0 1 = cc in omega arith)
+    test false is e rest = absurd (true≢false cc)
 
 -- ---- a number that is turned down
 
@@ -87,8 +87,8 @@ unfit_whole greatest bytes at value count last g (inr e) = above g (leb-false va
 unfit_whole greatest bytes at value count last g (inl e) = long (eqb count 1) refl (eqb last 0) refl e
   where
     long : (a : Bool) → eqb count 1 ≡ a → (b : Bool) → eqb last 0 ≡ b → a || not b ≡ false → UnfitAt greatest bytes at
-    long true ia b ib e = absurd (let z : ◌≡◌ {A = ℕ} 0 1 = cc in omega arith)
-    long false ia false ib e = absurd (let z : ◌≡◌ {A = ℕ} 0 1 = cc in omega arith)
+    long true ia b ib e = absurd (true≢false cc)
+    long false ia false ib e = absurd (true≢false cc)
     long false ia true ib e =
         let w = groups_within 10 (drop at bytes) value count last g in
         let other = eqb-false count 1 ia in

@@ -84,9 +84,7 @@ impl Refusal {
         ensures { result ≡ refusal_offset self }
     {
         match self {
-            Refusal::Ends(at) => at,
-            Refusal::Unfit(at) => at,
-            Refusal::LeftOver(at) => at,
+            Refusal::Ends(at) | Refusal::Unfit(at) | Refusal::LeftOver(at) => at,
         }
     }
 }

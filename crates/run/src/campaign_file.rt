@@ -121,13 +121,13 @@ impl Cursor<'_> {
         Err(Refusal::Ends(begin))
     }
 
-    // The fourteen numbers, one after another.
+    // The fourteen numbers, one after another: each takes the place of its field's greatest value.
     pub fn numbers(&mut self) -> Result<[u64; 14], Refusal>
         ensures { Reads (numbers_of greatest_values) self result }
     {
-        let mut values = [0u64; 14];
-        for (i, greatest) in GREATEST.iter().enumerate() {
-            values[i] = self.number(*greatest)?;
+        let mut values = GREATEST;
+        for value in values.iter_mut() {
+            *value = self.number(*value)?;
         }
         Ok(values)
     }

@@ -1,6 +1,6 @@
 -- The groups of one number that the loop of `Cursor::number` has passed, and what the definition says of the rest at each way out.
 use Rattle.std.specs.Prelude.{Ok, Err}
-use Rattle.std.proofs.Common.{◌≡◌, ℕ, zero, suc, ◌+◌, ◌-◌, ◌*◌, ◌%◌, ◌^◌, ◌<◌, ◌≤◌, Bool, true, false, cond, not, ◌&&◌, ◌||◌, eqb, ltb, leb, ◌⊎◌, List, length, get_or, drop, sym, refl, ap, ◌∙◌, inl, inr, ⊎_elim, add_assoc, mul_assoc, mul-le-mul_left, pow-suc, mul-add, arith, lit<, drop_of_length-le, drop-cons, add-one, ltb-false, ltb-true, eq-eqb, ne_eqb, le-leb}
+use Rattle.std.proofs.Common.{◌≡◌, ℕ, zero, suc, ◌+◌, ◌-◌, ◌*◌, ◌%◌, ◌^◌, ◌<◌, ◌≤◌, Bool, true, false, cond, not, ◌&&◌, ◌||◌, eqb, ltb, leb, ◌⊎◌, List, length, get_or, drop, sym, refl, ap, ◌∙◌, inl, inr, ⊎_elim, add_assoc, mul_assoc, mul-le-mul_left, pow-suc, mul-add, arith, lit<, drop_of_length-le, drop-cons, add-one, ltb-false, ltb-true, ne_eqb, le-leb}
 use Rattle.std.proofs.lemmas.Bool.Decides.{nat_tests}
 use native.Mathlib.Nat.{pow-le-pow_right}
 use borrow.Author.Tests.{lt-leb}
@@ -56,9 +56,6 @@ first_only : (count : ℕ) → eqb (1 + count) 1 ≡ eqb count 0
 first_only zero = refl
 first_only (suc count) = ne_eqb (1 + suc count) 1 (omega arith) ∙ sym (ne_eqb (suc count) 0 (omega arith))
 
-two_of_lem : (b : ℕ) → 1 ≤ b → (b ≡ 1 → ⊥) → 2 ≤ b
-two_of_lem b h other = omega arith
-
 module _ {before now : Cursor} {rest : List ℕ} {count weight value : ℕ} (p : Passed before now rest count weight value) where
   -- the tenth group weighs 2 ^ 63
   tenth_weighs : 9 ≤ count → weight ≡ 2 ^ 63
@@ -104,31 +101,26 @@ module _ {before now : Cursor} {rest : List ℕ} {count weight value : ℕ} (p :
 
     pub tenth_unfit : (greatest : ℕ) → (eqb count 9 && not (eqb byte 1)) ≡ true → greatest < 2 ^ 64 → ReadOn (number_of greatest) before now (Err (Unfit before.at))
     unfolding number_of
-    tenth_unfit greatest test top = turned_down greatest (⊎_elim large small (lt_or_ge byte 128))
+    tenth_unfit greatest test top = ⊎_elim last more (lt_or_ge byte 128)
       where
         nine : 9 ≤ count
         nine = grind (arith, nat_tests)
 
-        other : byte ≡ 1 → ⊥
-        other e = grind (arith, nat_tests)
+        more : 128 ≤ byte → ReadOn (number_of greatest) before now (Err (Unfit before.at))
+        more g =
+            let none : 9 - count ≡ 0 = omega (arith, nine) in
+            turned_down greatest (rw (← p.rest_is, p.groups_are, there, le-leb 128 byte g, none))
 
-        small : 128 ≤ byte → number_of greatest before.bytes.now before.at ≡ refused (Unfit before.at)
-        small g =
-            let c : 9 - count ≡ 0 = omega (arith, nine) in
-            rw (← p.rest_is, p.groups_are, there, le-leb 128 byte g, c)
-
-        large : byte < 128 → number_of greatest before.bytes.now before.at ≡ refused (Unfit before.at)
-        large g = ⊎_elim zero_last too_great (lt_or_ge byte 1)
+        last : byte < 128 → ReadOn (number_of greatest) before now (Err (Unfit before.at))
+        last g = ⊎_elim zero above (lt_or_ge byte 2)
           where
-            zero_last : byte < 1 → number_of greatest before.bytes.now before.at ≡ refused (Unfit before.at)
-            zero_last z = last_is greatest g ∙ rw (eq-eqb byte 0 (omega arith), ne_eqb count 0 (omega (arith, nine)))
+            zero : byte < 2 → ReadOn (number_of greatest) before now (Err (Unfit before.at))
+            zero z = number_unfit greatest g (inr (grind (arith, nat_tests)))
 
-            too_great : 1 ≤ byte → number_of greatest before.bytes.now before.at ≡ refused (Unfit before.at)
-            too_great z =
-                let two : weight * 2 ≤ weight * (byte % 128) = mul-le-mul_left weight (two_of_lem (byte % 128) (omega arith) (λ e. other (omega arith))) in
-                let w : weight ≡ 2 ^ 63 = tenth_weighs nine in
-                last_is greatest g
-                ∙ rw (ne_eqb byte 0 (omega arith), ne_eqb count 0 (omega (arith, nine)), lt-leb (value + weight * (byte % 128)) greatest (omega arith))
+            above : 2 ≤ byte → ReadOn (number_of greatest) before now (Err (Unfit before.at))
+            above z =
+                let two : 2 ≤ byte % 128 = omega arith in
+                number_unfit greatest g (inl (grind (arith, nat_tests), omega (arith, tenth_weighs nine, mul-le-mul_left weight two)))
 
     -- where it is not the tenth, or is 1
     module _ (test : (eqb count 9 && not (eqb byte 1)) ≡ false) where
@@ -140,10 +132,14 @@ module _ {before now : Cursor} {rest : List ℕ} {count weight value : ℕ} (p :
       passed_fits = ⊎_elim early late (lt_or_ge count 9)
         where
           early : count < 9 → value + weight * (byte % 128) < 2 ^ 64
-          early h = omega (arith, weight_small count weight p.weight_is h, mul-le-mul_left weight (let g : byte % 128 ≤ 127 = omega arith in g), p.below)
+          early h =
+              let group : byte % 128 ≤ 127 = omega arith in
+              omega (arith, weight_small count weight p.weight_is h, mul-le-mul_left weight group, p.below)
 
           late : 9 ≤ count → value + weight * (byte % 128) < 2 ^ 64
-          late nine = omega (arith, tenth_weighs nine, mul-le-mul_left weight (let g : byte % 128 ≤ 1 = omega (arith, tenth_one nine) in g), p.below)
+          late nine =
+              let group : byte % 128 ≤ 1 = omega (arith, tenth_one nine) in
+              omega (arith, tenth_weighs nine, mul-le-mul_left weight group, p.below)
 
       -- one more group, which is not the last
       module _ (more : 128 ≤ byte) where

@@ -2,8 +2,8 @@
 // A `Cursor` goes over the bytes; each field is read from its place on, and the place moves to the field's end, or the field is turned down.
 ghost use Rattle.std.specs.Prelude.{◌≡◌, length};
 ghost use Rattle.run.specs.RecordNumbers.{AllWithin};
-ghost use Rattle.run.specs.CampaignFile.{refusal_number, refusal_offset, checked_of, number_of, greatest_values, numbers_of, page_of, parsed_of, campaign_of};
-ghost use Rattle.run.specs.Code.FileAnswers.{field_of};
+ghost use Rattle.run.specs.CampaignFile.{refusal_number, refusal_offset, number_of, greatest_values, numbers_of, page_of, parsed_of, campaign_of};
+ghost use Rattle.run.specs.Code.FileAnswers.{field_of, Reads};
 
 use crate::record_numbers;
 use arithmetic::record::Lh5801;
@@ -84,37 +84,16 @@ impl Refusal {
         ensures { result ≡ refusal_offset self }
     {
         match self {
-            Refusal::Ends(at) => at,
-            Refusal::Unfit(at) => at,
-            Refusal::LeftOver(at) => at,
+            Refusal::Ends(at) | Refusal::Unfit(at) | Refusal::LeftOver(at) => at,
         }
     }
 }
 
 impl Cursor<'_> {
-    // What is checked after a number's last group: it has to be written in the shortest way and to be at most its field's greatest value.
-    fn checked(
-        &mut self,
-        next: usize,
-        value: u64,
-        shortest: bool,
-        greatest: u64,
-    ) -> Result<u64, Refusal>
-        ensures field { checked_of self.old.at next value shortest greatest ≡ field_of result self.new.at }
-        ensures file { self.new.bytes ≡ self.old.bytes }
-    {
-        if shortest && value <= greatest {
-            self.at = next;
-            Ok(value)
-        } else {
-            Err(Refusal::Unfit(self.at))
-        }
-    }
-
-    // One number: groups of seven bits, the lowest first, the top bit set on all but the last.
+    // One number: groups of seven bits, the lowest first, the top bit set on all but the last. It has to be written in the shortest way and
+    // to be at most its field's greatest value.
     pub fn number(&mut self, greatest: u64) -> Result<u64, Refusal>
-        ensures field { number_of greatest self.old.bytes.now self.old.at ≡ field_of result self.new.at }
-        ensures file { self.new.bytes ≡ self.old.bytes }
+        ensures { Reads (number_of greatest) self result }
     {
         let begin = self.at;
         let Some(rest) = self.bytes.get(begin..) else {
@@ -122,42 +101,33 @@ impl Cursor<'_> {
         };
         let mut weight: u64 = 1;
         let mut value: u64 = 0;
-        for count in 0..9 {
-            let Some(&byte) = rest.get(count) else {
-                return Err(Refusal::Ends(begin));
-            };
+        for (count, &byte) in rest.iter().enumerate() {
             let group = u64::from(byte);
-            if group < 128 {
-                let shortest = (count == 0) | (group != 0);
-                return self.checked(
-                    begin + count + 1,
-                    value + weight * group,
-                    shortest,
-                    greatest,
-                );
+            // The tenth group weighs 2^63: only 1 is neither longer than needed nor too great.
+            if (count == 9) & (group != 1) {
+                return Err(Refusal::Unfit(begin));
             }
             value += weight * (group % 128);
+            if group < 128 {
+                let shortest = (count == 0) | (group != 0);
+                if shortest && value <= greatest {
+                    self.at = begin + count + 1;
+                    return Ok(value);
+                }
+                return Err(Refusal::Unfit(begin));
+            }
             weight *= 128;
         }
-        // The tenth group weighs 2^63: only 1 is neither longer than needed nor too great.
-        let Some(&byte) = rest.get(9) else {
-            return Err(Refusal::Ends(begin));
-        };
-        if byte == 1 {
-            self.checked(begin + 10, value + 0x8000_0000_0000_0000, true, greatest)
-        } else {
-            Err(Refusal::Unfit(begin))
-        }
+        Err(Refusal::Ends(begin))
     }
 
-    // The fourteen numbers, one after another.
+    // The fourteen numbers, one after another: each takes the place of its field's greatest value.
     pub fn numbers(&mut self) -> Result<[u64; 14], Refusal>
-        ensures field { numbers_of greatest_values self.old.bytes.now self.old.at ≡ field_of result self.new.at }
-        ensures file { self.new.bytes ≡ self.old.bytes }
+        ensures { Reads (numbers_of greatest_values) self result }
     {
-        let mut values = [0u64; 14];
-        for (i, greatest) in GREATEST.iter().enumerate() {
-            values[i] = self.number(*greatest)?;
+        let mut values = GREATEST;
+        for value in values.iter_mut() {
+            *value = self.number(*value)?;
         }
         Ok(values)
     }
@@ -165,8 +135,7 @@ impl Cursor<'_> {
     // A page's length, then so many bytes.
     #[tactic(auto, using(crate::proofs::CampaignFile::Number::number_within), unfolding(crate::specs::CampaignFile::page_of, crate::specs::CampaignFile::bytes_of))]
     pub fn page(&mut self) -> Result<PagePlace, Refusal>
-        ensures field { page_of self.old.bytes.now self.old.at ≡ field_of result self.new.at }
-        ensures file { self.new.bytes ≡ self.old.bytes }
+        ensures { Reads page_of self result }
     {
         let len = self.number(16384)? as usize;
         let at = self.at;

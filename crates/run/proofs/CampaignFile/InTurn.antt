@@ -1,10 +1,13 @@
 -- Fields read in turn: each is read from the place after the one before it, and the first that is turned down ends the reading. What the
 -- code's answers tell of it, and what a file that was read tells of its fields.
-use Rattle.std.proofs.Common.{◌≡◌, ℕ, suc, ◌+◌, ◌<◌, ◌≤◌, Bool, true, false, cond, ltb, List, [], ◌∷◌, ◌++◌, length, get_or, take, drop, set, sym, refl, ap, ◌∙◌, subst, append_assoc, append-nil, add-one, arith, drop_of_length-le, take_all, drop-cons, take-suc-set, ltb-false}
+use Rattle.std.specs.Prelude.{Ok, Err}
+use Rattle.std.proofs.Common.{◌≡◌, ℕ, suc, ◌+◌, ◌<◌, ◌≤◌, Bool, true, false, cond, ltb, List, [], ◌∷◌, ◌++◌, length, get_or, take, drop, set, sym, refl, ap, ◌∙◌, subst, append_assoc, append-nil, add-one, arith, drop_of_length-le, take_all, drop-cons, take-suc-set, drop-set-lt, ltb-false}
 use Rattle.run.specs.RecordNumbers.{AllWithin}
 use Rattle.run.specs.CampaignFile.{Field, Reader, read, refused, and_then, given, number_of, greatest_values, numbers_of, longest, bytes_of, page_of, parsed_of, ended, campaign_of}
 use Rattle.run.specs.declared.campaign_file.Refusal.{Refusal}
 use Rattle.run.specs.declared.campaign_file.Refusal.TheVariants.{Ends, LeftOver}
+use Rattle.run.specs.Code.FileAnswers.{ReadOn}
+use Rattle.run.specs.declared.campaign_file.Cursor.{Cursor}
 use Rattle.run.specs.declared.campaign_file.PagePlace.{PagePlace}
 use Rattle.run.specs.declared.campaign_file.Parsed.{Parsed}
 use Rattle.run.proofs.CampaignFile.Number.{never, read_same, number_within}
@@ -20,28 +23,37 @@ onto_more : (bytes before : List ℕ) (value : ℕ) (f : Field (List ℕ)) → o
 onto_more bytes before value (read values next) = ap (λ (l : List ℕ). read l next) (sym (append_assoc before (value ∷ []) values))
 onto_more bytes before value (refused stop) = refl
 
--- the first i values were read, up to this place
-pub record ReadSo (greatests bytes : List ℕ) (begin : ℕ) (values : List ℕ) (i at : ℕ) : Type 0 where
-  pub so : numbers_of greatests bytes begin ≡ onto (take i values) (numbers_of (drop i greatests) bytes at)
+-- from a cursor the first i values were read, up to another; behind them stand the greatest values of the others
+pub record ReadSo (greatests : List ℕ) (before : Cursor) (values : List ℕ) (i : ℕ) (now : Cursor) : Type 0 where
+  pub so : numbers_of greatests before.bytes.now before.at ≡ onto (take i values) (numbers_of (drop i values) before.bytes.now now.at)
+  pub file : now.bytes ≡ before.bytes
 
-module _ {greatests bytes : List ℕ} {begin : ℕ} {values : List ℕ} {i at : ℕ} (p : ReadSo greatests bytes begin values i at) where
-  pub read_more : {value next : ℕ} → i < length greatests → i < length values → number_of (get_or greatests i 0) bytes at ≡ read value next
-      → ReadSo greatests bytes begin (set values i value) (i + 1) next
+module _ {greatests : List ℕ} {before : Cursor} {values : List ℕ} {i : ℕ} {now : Cursor} (p : ReadSo greatests before values i now) where
+  pub read_more : {value : ℕ} {next : Cursor} → i < length values → ReadOn (number_of (get_or values i 0)) now next (Ok value)
+      → ReadSo greatests before (set values i value) (i + 1) next
   unfolding numbers_of
-  read_more {value} {next} h l e = record {
+  read_more {value} {next} l r = record {
     so =
         p.so
-        ∙ rw (drop-cons greatests i 0 h, e, add-one, take-suc-set values i value l)
-        (onto_more bytes (take i values) value (numbers_of (drop (suc i) greatests) bytes next));
+        ∙ rw (drop-cons values i 0 l, rw p.file at r.field, add-one, take-suc-set values i value l, drop-set-lt (suc i) values i value (omega arith))
+        (onto_more before.bytes.now (take i values) value (numbers_of (drop (suc i) values) before.bytes.now next.at));
+    file = r.file ∙ p.file;
   }
 
-  pub read_stops : {stop : Refusal} → i < length greatests → number_of (get_or greatests i 0) bytes at ≡ refused stop → numbers_of greatests bytes begin ≡ refused stop
+  pub read_stops : {stop : Refusal} {next : Cursor} → i < length values → ReadOn (number_of (get_or values i 0)) now next (Err stop)
+      → ReadOn (numbers_of greatests) before next (Err stop)
   unfolding numbers_of
-  read_stops h e = p.so ∙ rw (drop-cons greatests i 0 h, e)
+  read_stops l r = record {
+    field = p.so ∙ rw (drop-cons values i 0 l, rw p.file at r.field);
+    file = r.file ∙ p.file;
+  }
 
-  pub read_all : length greatests ≤ i → length values ≤ i → numbers_of greatests bytes begin ≡ read values at
+  pub read_all : length values ≤ i → ReadOn (numbers_of greatests) before now (Ok values)
   unfolding numbers_of
-  read_all h l = p.so ∙ rw (drop_of_length-le greatests h, take_all i values l, append-nil values)
+  read_all l = record {
+    field = p.so ∙ rw (drop_of_length-le values l, take_all i values l, append-nil values);
+    file = p.file;
+  }
 
 -- ---- a file that was read
 

@@ -1,7 +1,6 @@
-use Rattle.std.proofs.Common.{◌≡◌, drop}
 use Rattle.run.proofs.CampaignFile.Groups.{Passed}
 use Rattle.run.proofs.campaign_file.Cursor.number.Given as goal
 
 -- The groups passed, with their value and the next one's weight, stand in front of those that the definition finds from here on.
 abbrev pub invariant-loop-count : goal.invariant-loop-count
-invariant-loop-count l = (l.self ≡ l.fn.self) × (l.rest ≡ drop l.fn.self.at l.fn.self.bytes.now) × Passed l.rest l.count l.weight l.value
+invariant-loop-count l = Passed l.fn.self l.self l.rest l.count l.weight l.value

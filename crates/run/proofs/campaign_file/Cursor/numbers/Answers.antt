@@ -1,17 +1,12 @@
-use Rattle.std.proofs.Common.{arith, length-set, rules}
+use Rattle.std.proofs.Common.{arith, rules}
 use Rattle.run.proofs.CampaignFile.InTurn.{read_more, read_stops, read_all}
 use Rattle.run.proofs.campaign_file.Cursor.numbers.Goals as goal
 
-pub returns-in_err-values-clause-field : goal.returns-in_err-values-clause-field
-returns-in_err-values-clause-field c =
-    search (rules, read_stops c.loop-i.invariant.2 (omega arith) (rw c.loop-i.invariant.1 at c.in_err-values.ensures.field))
+pub returns-in_err-value : goal.returns-in_err-value
+returns-in_err-value c = search (rules, read_stops c.loop-value.invariant (omega arith) c.in_err-value.ensures)
 
-pub loop-i-preserved : goal.loop-i-preserved
-loop-i-preserved c = (
-  simp length-set c.loop-i.invariant.0,
-  rw c.number.ensures.file c.loop-i.invariant.1,
-  read_more c.loop-i.invariant.2 (omega arith) (omega arith) (rw c.loop-i.invariant.1 at c.in_ok-values.ensures.field),
-)
+pub loop-value-preserved : goal.loop-value-preserved
+loop-value-preserved c = read_more c.loop-value.invariant (omega arith) c.in_ok-value.ensures
 
-pub returns-clause-field : goal.returns-clause-field
-returns-clause-field c = read_all c.loop-i.invariant.2 (omega arith) (omega arith)
+pub returns : goal.returns
+returns c = read_all c.loop-value.invariant (omega arith)

@@ -1,5 +1,6 @@
 pub mod Numbers
 pub mod Summed
 pub mod Stores
+pub mod Groups
 pub mod Listed
 pub mod Called

@@ -14,7 +14,7 @@ use Rattle.replay.specs.declared.Sums.{Sums}
 use Rattle.replay.specs.declared.Lent.{Lent}
 use Rattle.replay.specs.declared.Tally.{Tally}
 use Rattle.replay.specs.Numbers.{number_at, sums_after_of, same_sums}
-use Rattle.replay.specs.Bytes.{prepare_of, bytes_differ}
+use Rattle.replay.specs.Bytes.{patch_of, prepare_of, bytes_differ}
 
 -- a file that was turned down: is its line not the wanted one?
 unfoldable pub refusal_differs_of : Refusal → List ℕ → Bool
@@ -46,8 +46,8 @@ log_left (Some used) l = appended (log_of unused used) l
 unfoldable pub call_result_of : List ℕ → Parsed → Lent → List ℕ → CallResult
 call_result_of file c lent sets =
     run_parts_of (settings_in c.asked) (free_in (lent_log lent.log)) c.cpu
-    (prepare_of blank 0 lent.len0 lent.rule file c.page0 sets) lent.len0
-    (prepare_of blank 1 lent.len1 lent.rule file c.page1 sets) lent.len1
+    (patch_of (prepare_of blank lent.len0 lent.rule file c.page0) 0 sets) lent.len0
+    (patch_of (prepare_of blank lent.len1 lent.rule file c.page1) 1 sets) lent.len1
 
 -- the sums over both pages after a call, then over all entries of the list, then over the used count
 abbrev pub result_sums : Option ℕ → CallResult → Sums

@@ -14,7 +14,7 @@
 // log is lent; the used count is then 0.
 #![tactic(auto)]
 
-ghost use Rattle.std.specs.Prelude.{◌≡◌, ℕ, ◌+◌, ◌^◌, ◌<◌, ◌≤◌, List, None, Some, length, take, IfOk, IfSome, MatchOption};
+ghost use Rattle.std.specs.Prelude.{◌≡◌, ℕ, ◌+◌, ◌^◌, ◌<◌, ◌≤◌, List, None, Some, length, take, IfOk, IfSome, MatchOption, slice_set};
 ghost use Rattle.std.specs.List.{AllZip};
 ghost use Rattle.replay.specs.Numbers.{number_at, with_number, sums_of, sums_after_of, both_of, next_byte_of};
 ghost use Rattle.replay.specs.Bytes.{fill_of, copy_page_of, patch_of, prepare_of};
@@ -142,37 +142,40 @@ fn fill(page: &mut [u8], len: usize, rule: Rule)
     }
 }
 
-// The bytes that are set after the fill rule in one page: in groups of four the offset in two bytes, the page, and the byte.
-#[tactic(auto, using(crate::proofs::Stores::short), unfolding(crate::specs::Bytes::patch_of))]
-fn patch(page: &mut [u8], which: u8, sets: &[u8])
-    ensures { page.new ≡ patch_of page.old which sets.now }
+// A byte stored at an offset of a page; one past the end is dropped.
+fn store(page: &mut [u8], offset: usize, byte: u8)
+    ensures { page.new ≡ slice_set page.old offset byte }
 {
-    let mut left = sets;
-    while let [low, high, number, byte, more @ ..] = left {
-        let offset = usize::from(u16::from_le_bytes([*low, *high]));
-        if *number == which && offset < page.len() {
-            page[offset] = *byte;
-        }
-        left = more;
+    if offset < page.len() {
+        page[offset] = byte;
     }
 }
 
-// A page before the call: the fill rule, then the file's bytes, then the bytes that are set.
+// The bytes that are set after the fill rule, in both pages: in groups of four the offset in two bytes, the page, and the byte. A group of another page sets
+// nothing, and nor do fewer than four bytes at the end.
+#[tactic(auto, using(crate::proofs::Groups::here, crate::proofs::Groups::elsewhere, crate::proofs::Groups::none_left))]
+fn patch(page0: &mut [u8], page1: &mut [u8], sets: &[u8])
+    ensures page0 { page0.new ≡ patch_of page0.old 0 sets.now }
+    ensures page1 { page1.new ≡ patch_of page1.old 1 sets.now }
+{
+    let (groups, _) = sets.as_chunks::<4>();
+    for [low, high, page, byte] in groups {
+        let offset = usize::from(u16::from_le_bytes([*low, *high]));
+        match *page {
+            0 => store(page0, offset, *byte),
+            1 => store(page1, offset, *byte),
+            _ => {}
+        }
+    }
+}
+
+// A page before the bytes that are set: the fill rule, then the file's bytes.
 #[tactic(auto, unfolding(crate::specs::Bytes::prepare_of))]
-fn prepare(
-    page: &mut [u8],
-    which: u8,
-    len: usize,
-    rule: Rule,
-    file: &[u8],
-    place: PagePlace,
-    sets: &[u8],
-)
-    ensures { page.new ≡ prepare_of page.old which len rule file.now place sets.now }
+fn prepare(page: &mut [u8], len: usize, rule: Rule, file: &[u8], place: PagePlace)
+    ensures { page.new ≡ prepare_of page.old len rule file.now place }
 {
     fill(page, len, rule);
     copy_page(page, file, place);
-    patch(page, which, sets);
 }
 
 // The log that an item lends: so many entries are used, and 65,535 says that there is no log.
@@ -217,8 +220,9 @@ fn call_differs(
     let mut page1 = [0u8; 65537];
     let mut entries = [0xffff_ffffu32; 64];
     let mut out = [0u8; 200];
-    prepare(&mut page0, 0, lent.len0, lent.rule, file, c.page0, sets);
-    prepare(&mut page1, 1, lent.len1, lent.rule, file, c.page1, sets);
+    prepare(&mut page0, lent.len0, lent.rule, file, c.page0);
+    prepare(&mut page1, lent.len1, lent.rule, file, c.page1);
+    patch(&mut page0, &mut page1, sets);
     let page0 = &mut page0[..lent.len0];
     let page1 = &mut page1[..lent.len1];
     let mut log = BusLog {

@@ -3,7 +3,7 @@ use Rattle.std.proofs.Common.{◌≡◌, ℕ, zero, suc, ◌<◌, ◌≤◌, Boo
 use Rattle.std.specs.Prelude.{None, Some}
 use Rattle.std.specs.Int.{from_bool}
 use Rattle.replay.specs.declared.Tally.{Tally}
-use Rattle.replay.specs.Calls.{item_of, with_call, replay_from, replay_of}
+use Rattle.replay.specs.Calls.{Contents, differs_of, item_of, with_call, replay_from, replay_of}
 
 -- a call that differs counts as 1
 pub from_bool_small : (b : Bool) → from_bool b ≤ 1
@@ -21,12 +21,12 @@ unfolding replay_of
 none_counted bytes = record { more = length bytes; enough = omega arith; is = refl }
 
 module _ {bytes left : List ℕ} {tally : Tally} (c : Counted bytes left tally) where
-  pub one_counted : {differs : Bool} {rest : List ℕ} → 0 < length left → length rest < length left → item_of left ≡ Some (differs, rest)
-      → Counted bytes rest (with_call tally differs)
+  pub one_counted : {item : Contents} {rest : List ℕ} → 0 < length left → length rest < length left → item_of left ≡ Some (item, rest)
+      → Counted bytes rest (with_call tally (differs_of item))
   unfolding replay_from
-  one_counted {differs} {rest} h shorter e = go c.more c.enough c.is
+  one_counted {item} {rest} h shorter e = go c.more c.enough c.is
     where
-      go : (more : ℕ) → length left ≤ more → replay_from more left tally ≡ replay_of bytes → Counted bytes rest (with_call tally differs)
+      go : (more : ℕ) → length left ≤ more → replay_from more left tally ≡ replay_of bytes → Counted bytes rest (with_call tally (differs_of item))
       go zero n i = absurd (omega arith)
       go (suc more) n i = record { more = more; enough = omega arith; is = rw (lt-ltb 0 (length left) h, e) at i }
 

@@ -18,7 +18,7 @@ ghost use Rattle.std.specs.Prelude.{◌≡◌, ℕ, ◌+◌, ◌^◌, ◌<◌, �
 ghost use Rattle.std.specs.List.{AllZip};
 ghost use Rattle.replay.specs.Numbers.{number_at, with_number, sums_of, sums_after_of, both_of, next_byte_of};
 ghost use Rattle.replay.specs.Bytes.{fill_of, copy_page_of, patch_of, prepare_of};
-ghost use Rattle.replay.specs.Calls.{refusal_differs_of, log_in, call_differs_of, differs_of, lent_of, taken, item_of, replay_of, Replayed};
+ghost use Rattle.replay.specs.Calls.{contents, refusal_differs_of, log_in, call_differs_of, differs_of, lent_of, taken, item_of, replay_of, Replayed};
 
 use bus::BusLog;
 use run::campaign_file::{PagePlace, Parsed, Refusal};
@@ -60,6 +60,16 @@ struct Lent {
     len1: usize,
     rule: Rule,
     log: Option<usize>,
+}
+
+// An item of the list: a campaign file, what is lent to its call, the bytes that are set, and the line and the sums that are wanted.
+#[derive(Clone, Copy)]
+struct Item<'a> {
+    file: &'a [u8],
+    lent: Lent,
+    sets: &'a [u8],
+    want: &'a [u8],
+    want_sums: Sums,
 }
 
 // How many calls were replayed, and how many of them answered something else than the list.
@@ -202,44 +212,6 @@ fn sums_after(page0: &[u8], page1: &[u8], entries: &[u32], used: usize) -> Sums
         .with_number(used as u64)
 }
 
-// Does the call of a file that was read answer something else? It runs on the pages that the fill rule, the file and the bytes that are set make, and
-// with the log.
-#[tactic(auto, unfolding(crate::specs::Calls::call_differs_of, crate::specs::Calls::call_result_of))]
-fn call_differs(
-    file: &[u8],
-    c: Parsed,
-    lent: Lent,
-    sets: &[u8],
-    want: &[u8],
-    want_sums: Sums,
-) -> bool
-    requires { (lent.len0 ≤ 65537) × (lent.len1 ≤ 65537) }
-    ensures { result ≡ call_differs_of file.now c lent sets.now want.now want_sums }
-{
-    let mut page0 = [0u8; 65537];
-    let mut page1 = [0u8; 65537];
-    let mut entries = [0xffff_ffffu32; 64];
-    let mut out = [0u8; 200];
-    prepare(&mut page0, lent.len0, lent.rule, file, c.page0);
-    prepare(&mut page1, lent.len1, lent.rule, file, c.page1);
-    patch(&mut page0, &mut page1, sets);
-    let page0 = &mut page0[..lent.len0];
-    let page1 = &mut page1[..lent.len1];
-    let mut log = BusLog {
-        entries: &mut entries,
-        used: lent.log.unwrap_or(0),
-    };
-    let settings = Settings::from(c.asked);
-    let answer = match lent.log {
-        None => run::run(c.cpu, page0, page1, None, settings),
-        Some(_) => run::run(c.cpu, page0, page1, Some(&mut log), settings),
-    };
-    let used = log.used;
-    let n = report::answer_line(&mut out, answer);
-    let sums = sums_after(page0, page1, &entries, used);
-    (&out[..n] != want) | (sums != want_sums)
-}
-
 // Is the line of a file that was turned down another one?
 #[tactic(auto, unfolding(crate::specs::Calls::refusal_differs_of))]
 fn refusal_differs(stop: Refusal, want: &[u8]) -> bool
@@ -250,22 +222,56 @@ fn refusal_differs(stop: Refusal, want: &[u8]) -> bool
     &out[..n] != want
 }
 
-// One call of the list. The file is read before the lengths are tested, so that the great stack frame is made at the function's start: with the tests first,
-// clang 22.1.8 makes it behind them, and the loop that does so overwrites r11, where it keeps a length.
-#[tactic(auto, unfolding(crate::specs::Calls::differs_of))]
-fn differs(file: &[u8], lent: Lent, sets: &[u8], want: &[u8], want_sums: Sums) -> bool
-    ensures { result ≡ differs_of file.now lent sets.now want.now want_sums }
-{
-    let read = campaign_file::read_campaign(file);
-    if 65537 < lent.len0 {
-        return true;
+impl Item<'_> {
+    // Does the call of the item's file, which was read, answer something else? It runs on the pages that the fill rule, the file and the bytes that are
+    // set make, and with the log.
+    #[tactic(auto, unfolding(crate::specs::Calls::call_differs_of, crate::specs::Calls::call_result_of))]
+    fn call_differs(&self, c: Parsed) -> bool
+        requires { (self.now.lent.len0 ≤ 65537) × (self.now.lent.len1 ≤ 65537) }
+        ensures { result ≡ call_differs_of (contents self.now) c }
+    {
+        let lent = self.lent;
+        let mut page0 = [0u8; 65537];
+        let mut page1 = [0u8; 65537];
+        let mut entries = [0xffff_ffffu32; 64];
+        let mut out = [0u8; 200];
+        prepare(&mut page0, lent.len0, lent.rule, self.file, c.page0);
+        prepare(&mut page1, lent.len1, lent.rule, self.file, c.page1);
+        patch(&mut page0, &mut page1, self.sets);
+        let page0 = &mut page0[..lent.len0];
+        let page1 = &mut page1[..lent.len1];
+        let mut log = BusLog {
+            entries: &mut entries,
+            used: lent.log.unwrap_or(0),
+        };
+        let settings = Settings::from(c.asked);
+        let answer = match lent.log {
+            None => run::run(c.cpu, page0, page1, None, settings),
+            Some(_) => run::run(c.cpu, page0, page1, Some(&mut log), settings),
+        };
+        let used = log.used;
+        let n = report::answer_line(&mut out, answer);
+        let sums = sums_after(page0, page1, &entries, used);
+        (&out[..n] != self.want) | (sums != self.want_sums)
     }
-    if 65537 < lent.len1 {
-        return true;
-    }
-    match read {
-        Ok(c) => call_differs(file, c, lent, sets, want, want_sums),
-        Err(stop) => refusal_differs(stop, want),
+
+    // One call of the list. The file is read before the lengths are tested, so that the great stack frame is made at the function's start: with the tests
+    // first, clang 22.1.8 makes it behind them, and the loop that does so overwrites r11, where it keeps a length.
+    #[tactic(auto, unfolding(crate::specs::Calls::differs_of))]
+    fn differs(&self) -> bool
+        ensures { result ≡ differs_of (contents self.now) }
+    {
+        let read = campaign_file::read_campaign(self.file);
+        if 65537 < self.lent.len0 {
+            return true;
+        }
+        if 65537 < self.lent.len1 {
+            return true;
+        }
+        match read {
+            Ok(c) => self.call_differs(c),
+            Err(stop) => refusal_differs(stop, self.want),
+        }
     }
 }
 
@@ -298,22 +304,28 @@ impl<'a> Items<'a> {
         Some(part)
     }
 
-    // Does the first item's call differ? Nothing where the item is cut off.
+    // The first item; nothing where it is cut off.
     #[tactic(auto, unfolding(crate::specs::Calls::item_of))]
-    fn item(&mut self) -> Option<bool>
-        ensures item { MatchOption result (item_of self.old.left.now ≡ None) (λ differs. item_of self.old.left.now ≡ Some (differs, self.new.left.now)) }
+    fn item(&mut self) -> Option<Item<'a>>
+        ensures item { MatchOption result (item_of self.old.left.now ≡ None) (λ item. item_of self.old.left.now ≡ Some (contents item, self.new.left.now)) }
         ensures shorter { IfSome result (λ _. length self.new.left.now + 32 ≤ length self.old.left.now) }
     {
         let head = self.take(16)?;
         let file = self.take(number::<2>(head, 0) as usize)?;
-        let line = self.take(usize::from(head[10]))?;
+        let want = self.take(usize::from(head[10]))?;
         let sets = self.take(4 * usize::from(head[13]))?;
         let sums = self.take(16)?;
         let want_sums = Sums {
             first: number::<8>(sums, 0),
             second: number::<8>(sums, 8),
         };
-        Some(differs(file, lent_of(head), sets, line, want_sums))
+        Some(Item {
+            file,
+            lent: lent_of(head),
+            sets,
+            want,
+            want_sums,
+        })
     }
 }
 
@@ -327,11 +339,11 @@ fn replay(bytes: &[u8]) -> Tally
     let mut differ: u64 = 0;
     while !items.left.is_empty() {
         calls += 1;
-        let Some(differs) = items.item() else {
+        let Some(item) = items.item() else {
             differ += 1;
             return Tally { calls, differ };
         };
-        differ += u64::from(differs);
+        differ += u64::from(item.differs());
     }
     Tally { calls, differ }
 }

@@ -7,10 +7,10 @@ returns-in_default c = (cut_counted c.loop-items.invariant.2 (search rules) c.in
 
 pub loop-items-preserved : goal.loop-items-preserved
 loop-items-preserved c =
-    let small = from_bool_small c.in-Some.differs in (
+    let small = from_bool_small c.differs.result in (
       search rules,
       omega (arith, small, c.from-differ.ensures),
-      rw c.from-differ.ensures (one_counted c.loop-items.invariant.2 (search rules) (search rules) c.in-Some.ensures.item),
+      rw (c.from-differ.ensures, c.differs.ensures) (one_counted c.loop-items.invariant.2 (search rules) (search rules) c.in-Some.ensures.item),
     )
 
 pub returns : goal.returns

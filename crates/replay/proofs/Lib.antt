@@ -1,4 +1,3 @@
-pub mod Numbers
 pub mod Summed
 pub mod Stores
 pub mod Groups

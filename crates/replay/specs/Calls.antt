@@ -1,5 +1,5 @@
 -- One call of the list, an item of the list, and the whole list.
-use Rattle.std.specs.Prelude.{◌≡◌, ℕ, zero, suc, ◌+◌, ◌*◌, ◌≤◌, Bool, true, cond, not, ◌||◌, List, length, take, drop, replicate, ◌==◌, nat_lt, slice_index, Option, None, Some}
+use Rattle.std.specs.Prelude.{◌≡◌, ℕ, zero, suc, ◌+◌, ◌*◌, ◌≤◌, Bool, true, cond, not, ◌||◌, List, length, take, drop, replicate, ◌==◌, nat_lt, Option, None, Some}
 use Rattle.std.specs.Int.{from_bool}
 use Rattle.pages.specs.Prog.{Access}
 use Rattle.run.specs.declared.campaign_file.Parsed.{Parsed}
@@ -83,16 +83,6 @@ unfoldable pub differs_of : Contents → Bool
 differs_of item =
     cond (nat_lt 65537 item.lent.len0) true (cond (nat_lt 65537 item.lent.len1) true (file_differs (campaign_of item.file 0) item))
 
--- what an item lends its call, by the item's first 16 bytes
-unfoldable pub lent_of : List ℕ → Lent
-lent_of head =
-    record {
-      len0 = number_at 4 head 2;
-      len1 = number_at 4 head 6;
-      rule = record { first = slice_index head 11; step = slice_index head 12 };
-      log = log_in (number_at 2 head 14);
-    }
-
 -- what is read from the start of a list, with what is left of it; nothing where the list ends before
 abbrev pub Reader : Type 0 → Type 0
 Reader A = List ℕ → Option (A × List ℕ)
@@ -112,15 +102,35 @@ given a = λ list. Some (a, list)
 unfoldable pub taken : ℕ → Reader (List ℕ)
 taken len list = cond (nat_lt (length list) len) None (Some (take len list, drop len list))
 
--- an item: its first 16 bytes, its campaign file, its line, the bytes that are set, four for each, and the sums
+-- a number of so many bytes, the lowest first
+unfoldable pub number : ℕ → Reader ℕ
+number len = do
+  bytes ← taken len
+  given (number_at len bytes 0)
+
+-- an item: its numbers, its campaign file, its line, the bytes that are set, four for each, and the two sums
 unfoldable pub item_of : Reader Contents
 item_of = do
-  head ← taken 16
-  file ← taken (number_at 2 head 0)
-  line ← taken (slice_index head 10)
-  sets ← taken (4 * slice_index head 13)
-  sums ← taken 16
-  given (record { file = file; lent = lent_of head; sets = sets; want = line; want_sums = record { first = number_at 8 sums 0; second = number_at 8 sums 8 } })
+  file_len ← number 2
+  len0 ← number 4
+  len1 ← number 4
+  line_len ← number 1
+  first ← number 1
+  step ← number 1
+  set_count ← number 1
+  used ← number 2
+  file ← taken file_len
+  line ← taken line_len
+  sets ← taken (4 * set_count)
+  first_sum ← number 8
+  second_sum ← number 8
+  given (record {
+    file = file;
+    lent = record { len0 = len0; len1 = len1; rule = record { first = first; step = step }; log = log_in used };
+    sets = sets;
+    want = line;
+    want_sums = record { first = first_sum; second = second_sum };
+  })
 
 -- one call more, and one more that differs where it does
 abbrev pub with_call : Tally → Bool → Tally

@@ -16,9 +16,9 @@
 
 ghost use Rattle.std.specs.Prelude.{◌≡◌, ℕ, ◌+◌, ◌^◌, ◌<◌, ◌≤◌, List, None, Some, length, take, IfOk, IfSome, MatchOption, slice_set};
 ghost use Rattle.std.specs.List.{AllZip};
-ghost use Rattle.replay.specs.Numbers.{number_at, with_number, sums_of, sums_after_of, both_of, next_byte_of};
+ghost use Rattle.replay.specs.Numbers.{with_number, sums_of, sums_after_of, both_of, next_byte_of};
 ghost use Rattle.replay.specs.Bytes.{fill_of, copy_page_of, patch_of, prepare_of};
-ghost use Rattle.replay.specs.Calls.{contents, refusal_differs_of, log_in, call_differs_of, differs_of, lent_of, taken, item_of, replay_of, Replayed};
+ghost use Rattle.replay.specs.Calls.{contents, refusal_differs_of, log_in, call_differs_of, differs_of, taken, number, item_of, replay_of, Replayed};
 
 use bus::BusLog;
 use run::campaign_file::{PagePlace, Parsed, Refusal};
@@ -83,19 +83,6 @@ struct Tally {
 #[derive(Clone, Copy)]
 struct Items<'a> {
     left: &'a [u8],
-}
-
-// The number of N bytes from a place on, the lowest first.
-#[tactic(auto, using(crate::proofs::Numbers::none_at))]
-fn number<const N: usize>(bytes: &[u8], at: usize) -> u64
-    requires { (at + N ≤ length bytes.now) × (N ≤ 8) }
-    ensures { (result ≡ number_at N bytes.now at) × (result < 256 ^ N) }
-{
-    let mut number = 0;
-    for i in (0..N).rev() {
-        number = 256 * number + u64::from(bytes[at + i]);
-    }
-    number
 }
 
 impl Sums {
@@ -190,13 +177,13 @@ fn prepare(page: &mut [u8], len: usize, rule: Rule, file: &[u8], place: PagePlac
 
 // The log that an item lends: so many entries are used, and 65,535 says that there is no log.
 #[tactic(auto, unfolding(crate::specs::Calls::log_in))]
-fn log_of(used: u64) -> Option<usize>
+fn log_of(used: u16) -> Option<usize>
     ensures { result ≡ log_in used }
 {
     if used == 65535 {
         None
     } else {
-        Some(used as usize)
+        Some(usize::from(used))
     }
 }
 
@@ -275,53 +262,96 @@ impl Item<'_> {
     }
 }
 
-// What an item lends its call, by the item's first 16 bytes. `as`: of a number of at most four bytes usize has all.
-#[tactic(auto, unfolding(crate::specs::Calls::lent_of))]
-fn lent_of(head: &[u8]) -> Lent
-    requires { length head.now ≡ 16 }
-    ensures { result ≡ lent_of head.now }
-{
-    Lent {
-        len0: number::<4>(head, 2) as usize,
-        len1: number::<4>(head, 6) as usize,
-        rule: Rule {
-            first: head[11],
-            step: head[12],
-        },
-        log: log_of(number::<2>(head, 14)),
-    }
-}
-
+// Each method reads from the start of what is left, and gives nothing where fewer bytes are left than it reads.
 impl<'a> Items<'a> {
-    // So many bytes; nothing where fewer are left.
+    // So many bytes.
     #[tactic(auto, unfolding(crate::specs::Calls::taken))]
-    fn take(&mut self, len: usize) -> Option<&'a [u8]>
+    fn read_bytes(&mut self, len: usize) -> Option<&'a [u8]>
         ensures taken { MatchOption result (taken len self.old.left.now ≡ None) (λ part. taken len self.old.left.now ≡ Some (part.now, self.new.left.now)) }
-        ensures len { IfSome result (λ part. (length part.now ≡ len) × (length self.new.left.now + len ≡ length self.old.left.now)) }
+        ensures len { IfSome result (λ part. length self.new.left.now + len ≡ length self.old.left.now) }
     {
         let (part, left) = self.left.split_at_checked(len)?;
         self.left = left;
         Some(part)
     }
 
-    // The first item; nothing where it is cut off.
+    // N bytes.
+    #[tactic(auto, unfolding(crate::specs::Calls::taken))]
+    fn read_array<const N: usize>(&mut self) -> Option<[u8; N]>
+        ensures taken { MatchOption result (taken N self.old.left.now ≡ None) (λ part. taken N self.old.left.now ≡ Some (part, self.new.left.now)) }
+        ensures len { IfSome result (λ _. length self.new.left.now + N ≡ length self.old.left.now) }
+    {
+        let (part, left) = self.left.split_first_chunk::<N>()?;
+        self.left = left;
+        Some(*part)
+    }
+
+    // A number of one byte.
+    #[tactic(auto, unfolding(crate::specs::Calls::number, crate::specs::Numbers::number_at))]
+    fn read_u8(&mut self) -> Option<u8>
+        ensures number { MatchOption result (number 1 self.old.left.now ≡ None) (λ n. number 1 self.old.left.now ≡ Some (n, self.new.left.now)) }
+        ensures len { IfSome result (λ _. length self.new.left.now + 1 ≡ length self.old.left.now) }
+    {
+        Some(u8::from_le_bytes(self.read_array()?))
+    }
+
+    // A number of two bytes, the lowest first.
+    #[tactic(auto, unfolding(crate::specs::Calls::number, crate::specs::Numbers::number_at))]
+    fn read_u16(&mut self) -> Option<u16>
+        ensures number { MatchOption result (number 2 self.old.left.now ≡ None) (λ n. number 2 self.old.left.now ≡ Some (n, self.new.left.now)) }
+        ensures len { IfSome result (λ _. length self.new.left.now + 2 ≡ length self.old.left.now) }
+    {
+        Some(u16::from_le_bytes(self.read_array()?))
+    }
+
+    // A number of four bytes, the lowest first.
+    #[tactic(auto, unfolding(crate::specs::Calls::number, crate::specs::Numbers::number_at))]
+    fn read_u32(&mut self) -> Option<u32>
+        ensures number { MatchOption result (number 4 self.old.left.now ≡ None) (λ n. number 4 self.old.left.now ≡ Some (n, self.new.left.now)) }
+        ensures len { IfSome result (λ _. length self.new.left.now + 4 ≡ length self.old.left.now) }
+    {
+        Some(u32::from_le_bytes(self.read_array()?))
+    }
+
+    // A number of eight bytes, the lowest first.
+    #[tactic(auto, unfolding(crate::specs::Calls::number, crate::specs::Numbers::number_at))]
+    fn read_u64(&mut self) -> Option<u64>
+        ensures number { MatchOption result (number 8 self.old.left.now ≡ None) (λ n. number 8 self.old.left.now ≡ Some (n, self.new.left.now)) }
+        ensures len { IfSome result (λ _. length self.new.left.now + 8 ≡ length self.old.left.now) }
+    {
+        Some(u64::from_le_bytes(self.read_array()?))
+    }
+
+    // The first item. `as`: of a number of four bytes usize has all.
     #[tactic(auto, unfolding(crate::specs::Calls::item_of))]
     fn item(&mut self) -> Option<Item<'a>>
         ensures item { MatchOption result (item_of self.old.left.now ≡ None) (λ item. item_of self.old.left.now ≡ Some (contents item, self.new.left.now)) }
         ensures shorter { IfSome result (λ _. length self.new.left.now + 32 ≤ length self.old.left.now) }
     {
-        let head = self.take(16)?;
-        let file = self.take(number::<2>(head, 0) as usize)?;
-        let want = self.take(usize::from(head[10]))?;
-        let sets = self.take(4 * usize::from(head[13]))?;
-        let sums = self.take(16)?;
+        let file_len = self.read_u16()?;
+        let len0 = self.read_u32()? as usize;
+        let len1 = self.read_u32()? as usize;
+        let line_len = self.read_u8()?;
+        let first = self.read_u8()?;
+        let step = self.read_u8()?;
+        let set_count = self.read_u8()?;
+        let log = log_of(self.read_u16()?);
+        let file = self.read_bytes(usize::from(file_len))?;
+        let want = self.read_bytes(usize::from(line_len))?;
+        let sets = self.read_bytes(4 * usize::from(set_count))?;
         let want_sums = Sums {
-            first: number::<8>(sums, 0),
-            second: number::<8>(sums, 8),
+            first: self.read_u64()?,
+            second: self.read_u64()?,
+        };
+        let lent = Lent {
+            len0,
+            len1,
+            rule: Rule { first, step },
+            log,
         };
         Some(Item {
             file,
-            lent: lent_of(head),
+            lent,
             sets,
             want,
             want_sums,

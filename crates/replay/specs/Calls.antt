@@ -1,5 +1,5 @@
 -- One call of the list, an item of the list, and the whole list.
-use Rattle.std.specs.Prelude.{◌≡◌, ℕ, zero, suc, ◌+◌, ◌*◌, ◌≤◌, Bool, true, cond, not, ◌||◌, List, length, take, drop, replicate, ◌==◌, nat_lt, Option, None, Some}
+use Rattle.std.specs.Prelude.{◌≡◌, ℕ, zero, suc, ◌+◌, ◌*◌, ◌<◌, ◌≤◌, Bool, true, cond, not, ◌||◌, List, length, take, drop, replicate, ◌==◌, nat_lt, Option, None, Some}
 use Rattle.std.specs.Int.{from_bool}
 use Rattle.pages.specs.Prog.{Access}
 use Rattle.run.specs.declared.campaign_file.Parsed.{Parsed}
@@ -13,6 +13,7 @@ use Rattle.run.specs.Parts.{run_parts_of}
 use Rattle.replay.specs.declared.Sums.{Sums}
 use Rattle.replay.specs.declared.Lent.{Lent}
 use Rattle.replay.specs.declared.Item.{Item}
+use Rattle.replay.specs.declared.Items.{Items}
 use Rattle.replay.specs.declared.Tally.{Tally}
 use Rattle.replay.specs.Numbers.{number_at, sums_after_of, same_sums}
 use Rattle.replay.specs.Bytes.{patch_of, prepare_of, bytes_differ}
@@ -131,6 +132,12 @@ item_of = do
     want = line;
     want_sums = record { first = first_sum; second = second_sum };
   })
+
+-- the next item of those that are left: there is no byte left; or the item is cut off, and the list ends with it; or it is read, and fewer bytes are left
+abbrev pub GivesItem : Items → Option (Option Item) → Items → Type 0
+GivesItem old None new = length old.left.now ≡ 0
+GivesItem old (Some None) new = (item_of old.left.now ≡ None) × (0 < length old.left.now) × (length new.left.now ≡ 0)
+GivesItem old (Some (Some item)) new = (item_of old.left.now ≡ Some (contents item, new.left.now)) × (length new.left.now < length old.left.now)
 
 -- one call more, and one more that differs where it does
 abbrev pub with_call : Tally → Bool → Tally

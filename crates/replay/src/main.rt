@@ -359,23 +359,41 @@ impl<'a> Items<'a> {
     }
 }
 
+// The items one after another. One that is cut off is given as none, and ends the list.
+impl<'a> Iterator for Items<'a> {
+    ghost use Rattle.std.specs.Iterator.{at_most};
+    ghost use Rattle.replay.specs.Calls.{GivesItem};
+
+    type Item = Option<Item<'a>>;
+
+    ghost next_gives = { GivesItem };
+
+    ghost remaining = { λ items. at_most (length items.left.now) };
+
+    fn next(&mut self) -> Option<Option<Item<'a>>> {
+        if self.left.is_empty() {
+            return None;
+        }
+        let item = self.item();
+        if item.is_none() {
+            self.left = &[];
+        }
+        Some(item)
+    }
+}
+
 // The whole list. An item that is cut off counts as a call that differs, and ends the list.
-#[tactic(auto, using(crate::proofs::Listed::none_counted, crate::proofs::Listed::one_counted, crate::proofs::Listed::cut_counted, crate::proofs::Listed::all_counted))]
 fn replay(bytes: &[u8]) -> Tally
     ensures { (result ≡ replay_of bytes.now) × (result.differ ≤ result.calls) × (result.calls ≤ length bytes.now) }
 {
-    let mut items = Items { left: bytes };
-    let mut calls: u64 = 0;
-    let mut differ: u64 = 0;
-    while !items.left.is_empty() {
-        calls += 1;
-        let Some(item) = items.item() else {
-            differ += 1;
-            return Tally { calls, differ };
-        };
-        differ += u64::from(item.differs());
+    let items = Items { left: bytes };
+    let mut tally = Tally::default();
+    for item in items {
+        let differs = item.is_none_or(|item| item.differs());
+        tally.calls += 1;
+        tally.differ += u64::from(differs);
     }
-    Tally { calls, differ }
+    tally
 }
 
 // The part of the list in an open file; the error of a read that fails.

@@ -132,9 +132,11 @@ fn next_byte(byte: u8, step: u8, i: usize) -> u8
 fn fill(page: &mut [u8], len: usize, rule: Rule)
     ensures { page.new ≡ fill_of page.old len rule.first rule.step }
 {
+    let n = len.min(page.len());
+    let start = &mut page[..n];
     let mut byte = rule.first;
-    for i in 0..len.min(page.len()) {
-        page[i] = byte;
+    for (i, place) in start.iter_mut().enumerate() {
+        *place = byte;
         byte = next_byte(byte, rule.step, i + 1);
     }
 }

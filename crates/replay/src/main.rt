@@ -80,7 +80,7 @@ struct Tally {
 }
 
 // The items of the list that are left.
-#[derive(Clone, Copy)]
+#[derive(Drop)]
 struct Items<'a> {
     left: &'a [u8],
 }
@@ -158,11 +158,11 @@ fn patch(page0: &mut [u8], page1: &mut [u8], sets: &[u8])
     ensures page1 { page1.new ≡ patch_of page1.old 1 sets.now }
 {
     let (groups, _) = sets.as_chunks::<4>();
-    for [low, high, page, byte] in groups {
-        let offset = usize::from(u16::from_le_bytes([*low, *high]));
-        match *page {
-            0 => store(page0, offset, *byte),
-            1 => store(page1, offset, *byte),
+    for &[low, high, page, byte] in groups {
+        let offset = usize::from(u16::from_le_bytes([low, high]));
+        match page {
+            0 => store(page0, offset, byte),
+            1 => store(page1, offset, byte),
             _ => {}
         }
     }
@@ -294,7 +294,8 @@ impl<'a> Items<'a> {
         ensures number { MatchOption result (number 1 self.old.left.now ≡ None) (λ n. number 1 self.old.left.now ≡ Some (n, self.new.left.now)) }
         ensures len { IfSome result (λ _. length self.new.left.now + 1 ≡ length self.old.left.now) }
     {
-        Some(u8::from_le_bytes(self.read_array()?))
+        let [byte] = self.read_array::<1>()?;
+        Some(byte)
     }
 
     // A number of two bytes, the lowest first.

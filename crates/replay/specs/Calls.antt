@@ -1,5 +1,5 @@
 -- One call of the list, an item of the list, and the whole list.
-use Rattle.std.specs.Prelude.{◌≡◌, ℕ, zero, suc, ◌+◌, ◌*◌, ◌<◌, ◌≤◌, Bool, true, cond, not, ◌||◌, List, length, take, drop, replicate, ◌==◌, nat_lt, Option, None, Some}
+use Rattle.std.specs.Prelude.{◌≡◌, ℕ, zero, suc, ◌+◌, ◌*◌, ◌<◌, ◌≤◌, Bool, true, cond, not, ◌||◌, List, length, take, drop, replicate, ◌==◌, nat_lt, slice_index, Option, None, Some}
 use Rattle.std.specs.Int.{from_bool}
 use Rattle.pages.specs.Prog.{Access}
 use Rattle.run.specs.declared.campaign_file.Parsed.{Parsed}
@@ -115,19 +115,16 @@ item_of = do
   file_len ← number 2
   len0 ← number 4
   len1 ← number 4
-  line_len ← number 1
-  first ← number 1
-  step ← number 1
-  set_count ← number 1
+  bytes ← taken 4
   used ← number 2
   file ← taken file_len
-  line ← taken line_len
-  sets ← taken (4 * set_count)
+  line ← taken (slice_index bytes 0)
+  sets ← taken (4 * slice_index bytes 3)
   first_sum ← number 8
   second_sum ← number 8
   given (record {
     file = file;
-    lent = record { len0 = len0; len1 = len1; rule = record { first = first; step = step }; log = log_in used };
+    lent = record { len0 = len0; len1 = len1; rule = record { first = slice_index bytes 1; step = slice_index bytes 2 }; log = log_in used };
     sets = sets;
     want = line;
     want_sums = record { first = first_sum; second = second_sum };

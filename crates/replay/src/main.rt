@@ -288,69 +288,29 @@ impl<'a> Items<'a> {
         Some(*part)
     }
 
-    // A number of one byte.
-    #[tactic(auto, unfolding(crate::specs::Calls::number, crate::specs::Numbers::number_at))]
-    fn read_u8(&mut self) -> Option<u8>
-        ensures number { MatchOption result (number 1 self.old.left.now ≡ None) (λ n. number 1 self.old.left.now ≡ Some (n, self.new.left.now)) }
-        ensures len { IfSome result (λ _. length self.new.left.now + 1 ≡ length self.old.left.now) }
-    {
-        let [byte] = self.read_array::<1>()?;
-        Some(byte)
-    }
-
-    // A number of two bytes, the lowest first.
-    #[tactic(auto, unfolding(crate::specs::Calls::number, crate::specs::Numbers::number_at))]
-    fn read_u16(&mut self) -> Option<u16>
-        ensures number { MatchOption result (number 2 self.old.left.now ≡ None) (λ n. number 2 self.old.left.now ≡ Some (n, self.new.left.now)) }
-        ensures len { IfSome result (λ _. length self.new.left.now + 2 ≡ length self.old.left.now) }
-    {
-        Some(u16::from_le_bytes(self.read_array()?))
-    }
-
-    // A number of four bytes, the lowest first.
-    #[tactic(auto, unfolding(crate::specs::Calls::number, crate::specs::Numbers::number_at))]
-    fn read_u32(&mut self) -> Option<u32>
-        ensures number { MatchOption result (number 4 self.old.left.now ≡ None) (λ n. number 4 self.old.left.now ≡ Some (n, self.new.left.now)) }
-        ensures len { IfSome result (λ _. length self.new.left.now + 4 ≡ length self.old.left.now) }
-    {
-        Some(u32::from_le_bytes(self.read_array()?))
-    }
-
-    // A number of eight bytes, the lowest first.
-    #[tactic(auto, unfolding(crate::specs::Calls::number, crate::specs::Numbers::number_at))]
-    fn read_u64(&mut self) -> Option<u64>
-        ensures number { MatchOption result (number 8 self.old.left.now ≡ None) (λ n. number 8 self.old.left.now ≡ Some (n, self.new.left.now)) }
-        ensures len { IfSome result (λ _. length self.new.left.now + 8 ≡ length self.old.left.now) }
-    {
-        Some(u64::from_le_bytes(self.read_array()?))
-    }
-
     // The first item. `as`: of a number of four bytes usize has all.
-    #[tactic(auto, unfolding(crate::specs::Calls::item_of))]
+    #[tactic(auto, unfolding(crate::specs::Calls::item_of, crate::specs::Calls::number, crate::specs::Numbers::number_at))]
     fn item(&mut self) -> Option<Item<'a>>
         ensures item { MatchOption result (item_of self.old.left.now ≡ None) (λ item. item_of self.old.left.now ≡ Some (contents item, self.new.left.now)) }
         ensures shorter { IfSome result (λ _. length self.new.left.now + 32 ≤ length self.old.left.now) }
     {
-        let file_len = self.read_u16()?;
-        let len0 = self.read_u32()? as usize;
-        let len1 = self.read_u32()? as usize;
-        let line_len = self.read_u8()?;
-        let first = self.read_u8()?;
-        let step = self.read_u8()?;
-        let set_count = self.read_u8()?;
-        let log = log_of(self.read_u16()?);
+        let file_len = u16::from_le_bytes(self.read_array()?);
+        let len0 = u32::from_le_bytes(self.read_array()?) as usize;
+        let len1 = u32::from_le_bytes(self.read_array()?) as usize;
+        let [line_len, first, step, set_count] = self.read_array::<4>()?;
+        let used = u16::from_le_bytes(self.read_array()?);
         let file = self.read_bytes(usize::from(file_len))?;
         let want = self.read_bytes(usize::from(line_len))?;
         let sets = self.read_bytes(4 * usize::from(set_count))?;
         let want_sums = Sums {
-            first: self.read_u64()?,
-            second: self.read_u64()?,
+            first: u64::from_le_bytes(self.read_array()?),
+            second: u64::from_le_bytes(self.read_array()?),
         };
         let lent = Lent {
             len0,
             len1,
             rule: Rule { first, step },
-            log,
+            log: log_of(used),
         };
         Some(Item {
             file,

@@ -1,5 +1,5 @@
-pub mod Numbers
 pub mod Summed
 pub mod Stores
+pub mod Groups
 pub mod Listed
 pub mod Called

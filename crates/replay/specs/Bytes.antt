@@ -32,9 +32,9 @@ patch_of page which (low ∷ []) = page
 patch_of page which (low ∷ high ∷ []) = page
 patch_of page which (low ∷ high ∷ number ∷ []) = page
 
--- a page before the call: the fill rule, then the file's bytes, then the bytes that are set
-unfoldable pub prepare_of : List ℕ → ℕ → ℕ → Rule → List ℕ → PagePlace → List ℕ → List ℕ
-prepare_of page which len rule file place patches = patch_of (copy_page_of file place.at (fill_of page len rule.first rule.step) place.len) which patches
+-- a page before the bytes that are set: the fill rule, then the file's bytes
+unfoldable pub prepare_of : List ℕ → ℕ → Rule → List ℕ → PagePlace → List ℕ
+prepare_of page len rule file place = copy_page_of file place.at (fill_of page len rule.first rule.step) place.len
 
 -- two lists are not the same bytes
 abbrev pub bytes_differ : List ℕ → List ℕ → Bool

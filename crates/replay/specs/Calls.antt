@@ -1,5 +1,5 @@
 -- One call of the list, an item of the list, and the whole list.
-use Rattle.std.specs.Prelude.{◌≡◌, ℕ, zero, suc, ◌+◌, ◌*◌, ◌≤◌, Bool, true, cond, not, ◌||◌, List, length, take, drop, replicate, ◌==◌, nat_lt, slice_index, Option, None, Some}
+use Rattle.std.specs.Prelude.{◌≡◌, ℕ, zero, suc, ◌+◌, ◌*◌, ◌<◌, ◌≤◌, Bool, true, cond, not, ◌||◌, List, length, take, drop, replicate, ◌==◌, nat_lt, slice_index, Option, None, Some}
 use Rattle.std.specs.Int.{from_bool}
 use Rattle.pages.specs.Prog.{Access}
 use Rattle.run.specs.declared.campaign_file.Parsed.{Parsed}
@@ -12,9 +12,23 @@ use Rattle.run.specs.Report.{settings_in, answer_line}
 use Rattle.run.specs.Parts.{run_parts_of}
 use Rattle.replay.specs.declared.Sums.{Sums}
 use Rattle.replay.specs.declared.Lent.{Lent}
+use Rattle.replay.specs.declared.Item.{Item}
+use Rattle.replay.specs.declared.Items.{Items}
 use Rattle.replay.specs.declared.Tally.{Tally}
 use Rattle.replay.specs.Numbers.{number_at, sums_after_of, same_sums}
-use Rattle.replay.specs.Bytes.{prepare_of, bytes_differ}
+use Rattle.replay.specs.Bytes.{patch_of, prepare_of, bytes_differ}
+
+-- what an item says, by value: a campaign file, what is lent to its call, the bytes that are set, and the line and the sums that are wanted
+pub record Contents : Type 0 where
+  pub file : List ℕ
+  pub lent : Lent
+  pub sets : List ℕ
+  pub want : List ℕ
+  pub want_sums : Sums
+
+-- what an item of the program says: its slices are parts of the list
+abbrev pub contents : Item → Contents
+contents item = record { file = item.file.now; lent = item.lent; sets = item.sets.now; want = item.want.now; want_sums = item.want_sums }
 
 -- a file that was turned down: is its line not the wanted one?
 unfoldable pub refusal_differs_of : Refusal → List ℕ → Bool
@@ -42,12 +56,12 @@ abbrev pub log_left : Option ℕ → List Access → Log
 log_left None l = log_of unused 0
 log_left (Some used) l = appended (log_of unused used) l
 
--- the call of a file that was read, on the pages and with the log that the item lends
-unfoldable pub call_result_of : List ℕ → Parsed → Lent → List ℕ → CallResult
-call_result_of file c lent sets =
-    run_parts_of (settings_in c.asked) (free_in (lent_log lent.log)) c.cpu
-    (prepare_of blank 0 lent.len0 lent.rule file c.page0 sets) lent.len0
-    (prepare_of blank 1 lent.len1 lent.rule file c.page1 sets) lent.len1
+-- the call of an item's file, which was read, on the pages and with the log that the item lends
+unfoldable pub call_result_of : Contents → Parsed → CallResult
+call_result_of item c =
+    run_parts_of (settings_in c.asked) (free_in (lent_log item.lent.log)) c.cpu
+    (patch_of (prepare_of blank item.lent.len0 item.lent.rule item.file c.page0) 0 item.sets) item.lent.len0
+    (patch_of (prepare_of blank item.lent.len1 item.lent.rule item.file c.page1) 1 item.sets) item.lent.len1
 
 -- the sums over both pages after a call, then over all entries of the list, then over the used count
 abbrev pub result_sums : Option ℕ → CallResult → Sums
@@ -57,28 +71,18 @@ result_sums log o = sums_after_of o.pages.page0 o.pages.page1 (log_left log o.bu
 abbrev pub result_differs : Option ℕ → CallResult → List ℕ → Sums → Bool
 result_differs log o want want_sums = bytes_differ (answer_line o.answer) want || not (same_sums (result_sums log o) want_sums)
 
-unfoldable pub call_differs_of : List ℕ → Parsed → Lent → List ℕ → List ℕ → Sums → Bool
-call_differs_of file c lent sets want want_sums = result_differs lent.log (call_result_of file c lent sets) want want_sums
+unfoldable pub call_differs_of : Contents → Parsed → Bool
+call_differs_of item c = result_differs item.lent.log (call_result_of item c) item.want item.want_sums
 
 -- a file that is read is one call; a file that is turned down has a line only
-abbrev pub file_differs : Field Parsed → List ℕ → Lent → List ℕ → List ℕ → Sums → Bool
-file_differs (read c next) file lent sets want want_sums = call_differs_of file c lent sets want want_sums
-file_differs (refused stop) file lent sets want want_sums = refusal_differs_of stop want
+abbrev pub file_differs : Field Parsed → Contents → Bool
+file_differs (read c next) item = call_differs_of item c
+file_differs (refused stop) item = refusal_differs_of stop item.want
 
 -- one call of the list; one whose pages are longer than 65,537 bytes differs
-unfoldable pub differs_of : List ℕ → Lent → List ℕ → List ℕ → Sums → Bool
-differs_of file lent sets want want_sums =
-    cond (nat_lt 65537 lent.len0) true (cond (nat_lt 65537 lent.len1) true (file_differs (campaign_of file 0) file lent sets want want_sums))
-
--- what an item lends its call, by the item's first 16 bytes
-unfoldable pub lent_of : List ℕ → Lent
-lent_of head =
-    record {
-      len0 = number_at 4 head 2;
-      len1 = number_at 4 head 6;
-      rule = record { first = slice_index head 11; step = slice_index head 12 };
-      log = log_in (number_at 2 head 14);
-    }
+unfoldable pub differs_of : Contents → Bool
+differs_of item =
+    cond (nat_lt 65537 item.lent.len0) true (cond (nat_lt 65537 item.lent.len1) true (file_differs (campaign_of item.file 0) item))
 
 -- what is read from the start of a list, with what is left of it; nothing where the list ends before
 abbrev pub Reader : Type 0 → Type 0
@@ -99,24 +103,47 @@ given a = λ list. Some (a, list)
 unfoldable pub taken : ℕ → Reader (List ℕ)
 taken len list = cond (nat_lt (length list) len) None (Some (take len list, drop len list))
 
--- an item: its first 16 bytes, its campaign file, its line, the bytes that are set, four for each, and the sums. Does its call differ?
-unfoldable pub item_of : Reader Bool
+-- a number of so many bytes, the lowest first
+unfoldable pub number : ℕ → Reader ℕ
+number len = do
+  bytes ← taken len
+  given (number_at len bytes 0)
+
+-- an item: its numbers, its campaign file, its line, the bytes that are set, four for each, and the two sums
+unfoldable pub item_of : Reader Contents
 item_of = do
-  head ← taken 16
-  file ← taken (number_at 2 head 0)
-  line ← taken (slice_index head 10)
-  sets ← taken (4 * slice_index head 13)
-  sums ← taken 16
-  given (differs_of file (lent_of head) sets line (record { first = number_at 8 sums 0; second = number_at 8 sums 8 }))
+  file_len ← number 2
+  len0 ← number 4
+  len1 ← number 4
+  bytes ← taken 4
+  used ← number 2
+  file ← taken file_len
+  line ← taken (slice_index bytes 0)
+  sets ← taken (4 * slice_index bytes 3)
+  first_sum ← number 8
+  second_sum ← number 8
+  given (record {
+    file = file;
+    lent = record { len0 = len0; len1 = len1; rule = record { first = slice_index bytes 1; step = slice_index bytes 2 }; log = log_in used };
+    sets = sets;
+    want = line;
+    want_sums = record { first = first_sum; second = second_sum };
+  })
+
+-- the next item of those that are left: there is no byte left; or the item is cut off, and the list ends with it; or it is read, and fewer bytes are left
+abbrev pub GivesItem : Items → Option (Option Item) → Items → Type 0
+GivesItem old None new = length old.left.now ≡ 0
+GivesItem old (Some None) new = (item_of old.left.now ≡ None) × (0 < length old.left.now) × (length new.left.now ≡ 0)
+GivesItem old (Some (Some item)) new = (item_of old.left.now ≡ Some (contents item, new.left.now)) × (length new.left.now < length old.left.now)
 
 -- one call more, and one more that differs where it does
 abbrev pub with_call : Tally → Bool → Tally
 with_call tally differs = record { calls = tally.calls + 1; differ = tally.differ + from_bool differs }
 
 -- an item is counted, and then those after it. An item that is cut off counts as a call that differs, and ends the list
-abbrev pub with_item : Tally → Option (Bool × List ℕ) → (List ℕ → Tally → Tally) → Tally
+abbrev pub with_item : Tally → Option (Contents × List ℕ) → (List ℕ → Tally → Tally) → Tally
 with_item tally None rest = with_call tally true
-with_item tally (Some found) rest = rest found.1 (with_call tally found.0)
+with_item tally (Some found) rest = rest found.1 (with_call tally (differs_of found.0))
 
 -- the items of a list, of which there are at most so many as the first argument says, counted after those before them
 unfoldable pub replay_from : ℕ → List ℕ → Tally → Tally

@@ -14,11 +14,11 @@
 // log is lent; the used count is then 0.
 #![tactic(auto)]
 
-ghost use Rattle.std.specs.Prelude.{◌≡◌, ℕ, ◌+◌, ◌^◌, ◌<◌, ◌≤◌, List, None, Some, length, take, IfOk, IfSome, MatchOption};
+ghost use Rattle.std.specs.Prelude.{◌≡◌, ℕ, ◌+◌, ◌^◌, ◌<◌, ◌≤◌, List, None, Some, length, take, IfOk, IfSome, MatchOption, slice_set};
 ghost use Rattle.std.specs.List.{AllZip};
-ghost use Rattle.replay.specs.Numbers.{number_at, with_number, sums_of, sums_after_of, both_of, next_byte_of};
+ghost use Rattle.replay.specs.Numbers.{with_number, sums_of, sums_after_of, both_of, next_byte_of};
 ghost use Rattle.replay.specs.Bytes.{fill_of, copy_page_of, patch_of, prepare_of};
-ghost use Rattle.replay.specs.Calls.{refusal_differs_of, log_in, call_differs_of, differs_of, lent_of, taken, item_of, replay_of, Replayed};
+ghost use Rattle.replay.specs.Calls.{contents, refusal_differs_of, log_in, call_differs_of, differs_of, taken, number, item_of, replay_of, Replayed};
 
 use bus::BusLog;
 use run::campaign_file::{PagePlace, Parsed, Refusal};
@@ -62,6 +62,16 @@ struct Lent {
     log: Option<usize>,
 }
 
+// An item of the list: a campaign file, what is lent to its call, the bytes that are set, and the line and the sums that are wanted.
+#[derive(Clone, Copy)]
+struct Item<'a> {
+    file: &'a [u8],
+    lent: Lent,
+    sets: &'a [u8],
+    want: &'a [u8],
+    want_sums: Sums,
+}
+
 // How many calls were replayed, and how many of them answered something else than the list.
 #[derive(Clone, Copy, Default)]
 struct Tally {
@@ -70,22 +80,9 @@ struct Tally {
 }
 
 // The items of the list that are left.
-#[derive(Clone, Copy)]
+#[derive(Drop)]
 struct Items<'a> {
     left: &'a [u8],
-}
-
-// The number of N bytes from a place on, the lowest first.
-#[tactic(auto, using(crate::proofs::Numbers::none_at))]
-fn number<const N: usize>(bytes: &[u8], at: usize) -> u64
-    requires { (at + N ≤ length bytes.now) × (N ≤ 8) }
-    ensures { (result ≡ number_at N bytes.now at) × (result < 256 ^ N) }
-{
-    let mut number = 0;
-    for i in (0..N).rev() {
-        number = 256 * number + u64::from(bytes[at + i]);
-    }
-    number
 }
 
 impl Sums {
@@ -135,55 +132,60 @@ fn next_byte(byte: u8, step: u8, i: usize) -> u8
 fn fill(page: &mut [u8], len: usize, rule: Rule)
     ensures { page.new ≡ fill_of page.old len rule.first rule.step }
 {
+    let n = len.min(page.len());
+    let start = &mut page[..n];
     let mut byte = rule.first;
-    for i in 0..len.min(page.len()) {
-        page[i] = byte;
+    for (i, place) in start.iter_mut().enumerate() {
+        *place = byte;
         byte = next_byte(byte, rule.step, i + 1);
     }
 }
 
-// The bytes that are set after the fill rule in one page: in groups of four the offset in two bytes, the page, and the byte.
-#[tactic(auto, using(crate::proofs::Stores::short), unfolding(crate::specs::Bytes::patch_of))]
-fn patch(page: &mut [u8], which: u8, sets: &[u8])
-    ensures { page.new ≡ patch_of page.old which sets.now }
+// A byte stored at an offset of a page; one past the end is dropped.
+fn store(page: &mut [u8], offset: usize, byte: u8)
+    ensures { page.new ≡ slice_set page.old offset byte }
 {
-    let mut left = sets;
-    while let [low, high, number, byte, more @ ..] = left {
-        let offset = usize::from(u16::from_le_bytes([*low, *high]));
-        if *number == which && offset < page.len() {
-            page[offset] = *byte;
-        }
-        left = more;
+    if offset < page.len() {
+        page[offset] = byte;
     }
 }
 
-// A page before the call: the fill rule, then the file's bytes, then the bytes that are set.
+// The bytes that are set after the fill rule, in both pages: in groups of four the offset in two bytes, the page, and the byte. A group of another page sets
+// nothing, and nor do fewer than four bytes at the end.
+#[tactic(auto, using(crate::proofs::Groups::here, crate::proofs::Groups::elsewhere, crate::proofs::Groups::none_left))]
+fn patch(page0: &mut [u8], page1: &mut [u8], sets: &[u8])
+    ensures page0 { page0.new ≡ patch_of page0.old 0 sets.now }
+    ensures page1 { page1.new ≡ patch_of page1.old 1 sets.now }
+{
+    let (groups, _) = sets.as_chunks::<4>();
+    for &[low, high, page, byte] in groups {
+        let offset = usize::from(u16::from_le_bytes([low, high]));
+        match page {
+            0 => store(page0, offset, byte),
+            1 => store(page1, offset, byte),
+            _ => {}
+        }
+    }
+}
+
+// A page before the bytes that are set: the fill rule, then the file's bytes.
 #[tactic(auto, unfolding(crate::specs::Bytes::prepare_of))]
-fn prepare(
-    page: &mut [u8],
-    which: u8,
-    len: usize,
-    rule: Rule,
-    file: &[u8],
-    place: PagePlace,
-    sets: &[u8],
-)
-    ensures { page.new ≡ prepare_of page.old which len rule file.now place sets.now }
+fn prepare(page: &mut [u8], len: usize, rule: Rule, file: &[u8], place: PagePlace)
+    ensures { page.new ≡ prepare_of page.old len rule file.now place }
 {
     fill(page, len, rule);
     copy_page(page, file, place);
-    patch(page, which, sets);
 }
 
 // The log that an item lends: so many entries are used, and 65,535 says that there is no log.
 #[tactic(auto, unfolding(crate::specs::Calls::log_in))]
-fn log_of(used: u64) -> Option<usize>
+fn log_of(used: u16) -> Option<usize>
     ensures { result ≡ log_in used }
 {
     if used == 65535 {
         None
     } else {
-        Some(used as usize)
+        Some(usize::from(used))
     }
 }
 
@@ -199,43 +201,6 @@ fn sums_after(page0: &[u8], page1: &[u8], entries: &[u32], used: usize) -> Sums
         .with_number(used as u64)
 }
 
-// Does the call of a file that was read answer something else? It runs on the pages that the fill rule, the file and the bytes that are set make, and
-// with the log.
-#[tactic(auto, unfolding(crate::specs::Calls::call_differs_of, crate::specs::Calls::call_result_of))]
-fn call_differs(
-    file: &[u8],
-    c: Parsed,
-    lent: Lent,
-    sets: &[u8],
-    want: &[u8],
-    want_sums: Sums,
-) -> bool
-    requires { (lent.len0 ≤ 65537) × (lent.len1 ≤ 65537) }
-    ensures { result ≡ call_differs_of file.now c lent sets.now want.now want_sums }
-{
-    let mut page0 = [0u8; 65537];
-    let mut page1 = [0u8; 65537];
-    let mut entries = [0xffff_ffffu32; 64];
-    let mut out = [0u8; 200];
-    prepare(&mut page0, 0, lent.len0, lent.rule, file, c.page0, sets);
-    prepare(&mut page1, 1, lent.len1, lent.rule, file, c.page1, sets);
-    let page0 = &mut page0[..lent.len0];
-    let page1 = &mut page1[..lent.len1];
-    let mut log = BusLog {
-        entries: &mut entries,
-        used: lent.log.unwrap_or(0),
-    };
-    let settings = Settings::from(c.asked);
-    let answer = match lent.log {
-        None => run::run(c.cpu, page0, page1, None, settings),
-        Some(_) => run::run(c.cpu, page0, page1, Some(&mut log), settings),
-    };
-    let used = log.used;
-    let n = report::answer_line(&mut out, answer);
-    let sums = sums_after(page0, page1, &entries, used);
-    (&out[..n] != want) | (sums != want_sums)
-}
-
 // Is the line of a file that was turned down another one?
 #[tactic(auto, unfolding(crate::specs::Calls::refusal_differs_of))]
 fn refusal_differs(stop: Refusal, want: &[u8]) -> bool
@@ -246,90 +211,152 @@ fn refusal_differs(stop: Refusal, want: &[u8]) -> bool
     &out[..n] != want
 }
 
-// One call of the list. The file is read before the lengths are tested, so that the great stack frame is made at the function's start: with the tests first,
-// clang 22.1.8 makes it behind them, and the loop that does so overwrites r11, where it keeps a length.
-#[tactic(auto, unfolding(crate::specs::Calls::differs_of))]
-fn differs(file: &[u8], lent: Lent, sets: &[u8], want: &[u8], want_sums: Sums) -> bool
-    ensures { result ≡ differs_of file.now lent sets.now want.now want_sums }
-{
-    let read = campaign_file::read_campaign(file);
-    if 65537 < lent.len0 {
-        return true;
+impl Item<'_> {
+    // Does the call of the item's file, which was read, answer something else? It runs on the pages that the fill rule, the file and the bytes that are
+    // set make, and with the log.
+    #[tactic(auto, unfolding(crate::specs::Calls::call_differs_of, crate::specs::Calls::call_result_of))]
+    fn call_differs(&self, c: Parsed) -> bool
+        requires { (self.now.lent.len0 ≤ 65537) × (self.now.lent.len1 ≤ 65537) }
+        ensures { result ≡ call_differs_of (contents self.now) c }
+    {
+        let lent = self.lent;
+        let mut page0 = [0u8; 65537];
+        let mut page1 = [0u8; 65537];
+        let mut entries = [0xffff_ffffu32; 64];
+        let mut out = [0u8; 200];
+        prepare(&mut page0, lent.len0, lent.rule, self.file, c.page0);
+        prepare(&mut page1, lent.len1, lent.rule, self.file, c.page1);
+        patch(&mut page0, &mut page1, self.sets);
+        let page0 = &mut page0[..lent.len0];
+        let page1 = &mut page1[..lent.len1];
+        let mut log = BusLog {
+            entries: &mut entries,
+            used: lent.log.unwrap_or(0),
+        };
+        let settings = Settings::from(c.asked);
+        let answer = match lent.log {
+            None => run::run(c.cpu, page0, page1, None, settings),
+            Some(_) => run::run(c.cpu, page0, page1, Some(&mut log), settings),
+        };
+        let used = log.used;
+        let n = report::answer_line(&mut out, answer);
+        let sums = sums_after(page0, page1, &entries, used);
+        (&out[..n] != self.want) | (sums != self.want_sums)
     }
-    if 65537 < lent.len1 {
-        return true;
-    }
-    match read {
-        Ok(c) => call_differs(file, c, lent, sets, want, want_sums),
-        Err(stop) => refusal_differs(stop, want),
+
+    // One call of the list. The file is read before the lengths are tested, so that the great stack frame is made at the function's start: with the tests
+    // first, clang 22.1.8 makes it behind them, and the loop that does so overwrites r11, where it keeps a length.
+    #[tactic(auto, unfolding(crate::specs::Calls::differs_of))]
+    fn differs(&self) -> bool
+        ensures { result ≡ differs_of (contents self.now) }
+    {
+        let read = campaign_file::read_campaign(self.file);
+        if 65537 < self.lent.len0 {
+            return true;
+        }
+        if 65537 < self.lent.len1 {
+            return true;
+        }
+        match read {
+            Ok(c) => self.call_differs(c),
+            Err(stop) => refusal_differs(stop, self.want),
+        }
     }
 }
 
-// What an item lends its call, by the item's first 16 bytes. `as`: of a number of at most four bytes usize has all.
-#[tactic(auto, unfolding(crate::specs::Calls::lent_of))]
-fn lent_of(head: &[u8]) -> Lent
-    requires { length head.now ≡ 16 }
-    ensures { result ≡ lent_of head.now }
-{
-    Lent {
-        len0: number::<4>(head, 2) as usize,
-        len1: number::<4>(head, 6) as usize,
-        rule: Rule {
-            first: head[11],
-            step: head[12],
-        },
-        log: log_of(number::<2>(head, 14)),
-    }
-}
-
+// Each method reads from the start of what is left, and gives nothing where fewer bytes are left than it reads.
 impl<'a> Items<'a> {
-    // So many bytes; nothing where fewer are left.
+    // So many bytes.
     #[tactic(auto, unfolding(crate::specs::Calls::taken))]
-    fn take(&mut self, len: usize) -> Option<&'a [u8]>
+    fn read_bytes(&mut self, len: usize) -> Option<&'a [u8]>
         ensures taken { MatchOption result (taken len self.old.left.now ≡ None) (λ part. taken len self.old.left.now ≡ Some (part.now, self.new.left.now)) }
-        ensures len { IfSome result (λ part. (length part.now ≡ len) × (length self.new.left.now + len ≡ length self.old.left.now)) }
+        ensures len { IfSome result (λ part. length self.new.left.now + len ≡ length self.old.left.now) }
     {
         let (part, left) = self.left.split_at_checked(len)?;
         self.left = left;
         Some(part)
     }
 
-    // Does the first item's call differ? Nothing where the item is cut off.
-    #[tactic(auto, unfolding(crate::specs::Calls::item_of))]
-    fn item(&mut self) -> Option<bool>
-        ensures item { MatchOption result (item_of self.old.left.now ≡ None) (λ differs. item_of self.old.left.now ≡ Some (differs, self.new.left.now)) }
+    // N bytes.
+    #[tactic(auto, unfolding(crate::specs::Calls::taken))]
+    fn read_array<const N: usize>(&mut self) -> Option<[u8; N]>
+        ensures taken { MatchOption result (taken N self.old.left.now ≡ None) (λ part. taken N self.old.left.now ≡ Some (part, self.new.left.now)) }
+        ensures len { IfSome result (λ _. length self.new.left.now + N ≡ length self.old.left.now) }
+    {
+        let (part, left) = self.left.split_first_chunk::<N>()?;
+        self.left = left;
+        Some(*part)
+    }
+
+    // The first item. `as`: of a number of four bytes usize has all.
+    #[tactic(auto, unfolding(crate::specs::Calls::item_of, crate::specs::Calls::number, crate::specs::Numbers::number_at))]
+    fn item(&mut self) -> Option<Item<'a>>
+        ensures item { MatchOption result (item_of self.old.left.now ≡ None) (λ item. item_of self.old.left.now ≡ Some (contents item, self.new.left.now)) }
         ensures shorter { IfSome result (λ _. length self.new.left.now + 32 ≤ length self.old.left.now) }
     {
-        let head = self.take(16)?;
-        let file = self.take(number::<2>(head, 0) as usize)?;
-        let line = self.take(usize::from(head[10]))?;
-        let sets = self.take(4 * usize::from(head[13]))?;
-        let sums = self.take(16)?;
+        let file_len = u16::from_le_bytes(self.read_array()?);
+        let len0 = u32::from_le_bytes(self.read_array()?) as usize;
+        let len1 = u32::from_le_bytes(self.read_array()?) as usize;
+        let [line_len, first, step, set_count] = self.read_array::<4>()?;
+        let used = u16::from_le_bytes(self.read_array()?);
+        let file = self.read_bytes(usize::from(file_len))?;
+        let want = self.read_bytes(usize::from(line_len))?;
+        let sets = self.read_bytes(4 * usize::from(set_count))?;
         let want_sums = Sums {
-            first: number::<8>(sums, 0),
-            second: number::<8>(sums, 8),
+            first: u64::from_le_bytes(self.read_array()?),
+            second: u64::from_le_bytes(self.read_array()?),
         };
-        Some(differs(file, lent_of(head), sets, line, want_sums))
+        let lent = Lent {
+            len0,
+            len1,
+            rule: Rule { first, step },
+            log: log_of(used),
+        };
+        Some(Item {
+            file,
+            lent,
+            sets,
+            want,
+            want_sums,
+        })
+    }
+}
+
+// The items one after another. One that is cut off is given as none, and ends the list.
+impl<'a> Iterator for Items<'a> {
+    ghost use Rattle.std.specs.Iterator.{at_most};
+    ghost use Rattle.replay.specs.Calls.{GivesItem};
+
+    type Item = Option<Item<'a>>;
+
+    ghost next_gives = { GivesItem };
+
+    ghost remaining = { λ items. at_most (length items.left.now) };
+
+    fn next(&mut self) -> Option<Option<Item<'a>>> {
+        if self.left.is_empty() {
+            return None;
+        }
+        let item = self.item();
+        if item.is_none() {
+            self.left = &[];
+        }
+        Some(item)
     }
 }
 
 // The whole list. An item that is cut off counts as a call that differs, and ends the list.
-#[tactic(auto, using(crate::proofs::Listed::none_counted, crate::proofs::Listed::one_counted, crate::proofs::Listed::cut_counted, crate::proofs::Listed::all_counted))]
 fn replay(bytes: &[u8]) -> Tally
     ensures { (result ≡ replay_of bytes.now) × (result.differ ≤ result.calls) × (result.calls ≤ length bytes.now) }
 {
-    let mut items = Items { left: bytes };
-    let mut calls: u64 = 0;
-    let mut differ: u64 = 0;
-    while !items.left.is_empty() {
-        calls += 1;
-        let Some(differs) = items.item() else {
-            differ += 1;
-            return Tally { calls, differ };
-        };
-        differ += u64::from(differs);
+    let items = Items { left: bytes };
+    let mut tally = Tally::default();
+    for item in items {
+        let differs = item.is_none_or(|item| item.differs());
+        tally.calls += 1;
+        tally.differ += u64::from(differs);
     }
-    Tally { calls, differ }
+    tally
 }
 
 // The part of the list in an open file; the error of a read that fails.

@@ -1,9 +1,7 @@
-use Rattle.std.proofs.Common.{◌≡◌, length}
+use Rattle.std.proofs.Common.{◌≡◌, ◌*◌, drop}
 use Rattle.replay.specs.Bytes.{patch_of}
 use Rattle.replay.proofs.patch.Given as goal
 
-abbrev pub invariant-loop-left : goal.invariant-loop-left
-invariant-loop-left l = patch_of l.page l.which l.left ≡ patch_of l.initial.page l.which l.sets
-
-abbrev pub decreases-loop-left : goal.decreases-loop-left
-decreases-loop-left l = length l.left
+abbrev pub invariant-loop-low : goal.invariant-loop-low
+invariant-loop-low l =
+    (patch_of l.page0 0 (drop (l.low-index * 4) l.sets) ≡ patch_of l.initial.page0 0 l.sets) × (patch_of l.page1 1 (drop (l.low-index * 4) l.sets) ≡ patch_of l.initial.page1 1 l.sets)

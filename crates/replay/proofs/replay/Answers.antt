@@ -1,17 +1,18 @@
-use Rattle.std.proofs.Common.{rules, arith}
-use Rattle.replay.proofs.Listed.{one_counted, cut_counted, all_counted, from_bool_small}
+use Rattle.std.proofs.Common.{◌≡◌, rules, arith}
+use Rattle.replay.proofs.Listed.{none_counted, all_counted, item_differs, item_counted, from_bool_small}
 use Rattle.replay.proofs.replay.Goals as goal
 
-pub returns-in_default : goal.returns-in_default
-returns-in_default c = (cut_counted c.loop-items.invariant.2 (search rules) c.in_default.ensures.item, omega arith, search rules)
+pub loop-item-init : goal.loop-item-init
+loop-item-init c = rw c.into_iter-item-iterator.ensures.into_iter_gives (omega arith, omega arith, none_counted c.args.bytes.now c.default-tally.ensures)
 
-pub loop-items-preserved : goal.loop-items-preserved
-loop-items-preserved c =
-    let small = from_bool_small c.in-Some.differs in (
-      search rules,
-      omega (arith, small, c.from-differ.ensures),
-      rw c.from-differ.ensures (one_counted c.loop-items.invariant.2 (search rules) (search rules) c.in-Some.ensures.item),
+pub loop-item-preserved : goal.loop-item-preserved
+loop-item-preserved c =
+    let next = item_counted c.loop-item.item-iterator c.in-Some.item c.next.new.self c.loop-item.invariant.2 c.in-Some.ensures.steps in
+    let differs : c.is_none_or-differs.result ≡ item_differs c.in-Some.item = grind (arith, c.is_none_or-differs.ensures) in (
+      omega (arith, next.0),
+      omega (arith, c.from.ensures, from_bool_small c.is_none_or-differs.result),
+      rw (c.from.ensures, differs) next.1,
     )
 
 pub returns : goal.returns
-returns c = (all_counted c.loop-items.invariant.2 (search rules), omega arith, search rules)
+returns c = (all_counted c.loop-item.invariant.2 (omega (arith, c.in-None.ensures.steps)), search rules, omega arith)

@@ -5,7 +5,7 @@ use Rattle.std.specs.Int.{from_bool}
 use Rattle.replay.specs.declared.Item.{Item}
 use Rattle.replay.specs.declared.Items.{Items}
 use Rattle.replay.specs.declared.Tally.{Tally}
-use Rattle.replay.specs.Calls.{Contents, contents, differs_of, item_of, with_call, replay_from, replay_of, GivesItem}
+use Rattle.replay.specs.Calls.{contents, differs_of, item_of, with_call, with_item, replay_from, replay_of, GivesItem}
 
 -- a call that differs counts as 1
 pub from_bool_small : (b : Bool) → from_bool b ≤ 1
@@ -25,21 +25,14 @@ none_counted bytes {tally} none =
     record { more = length bytes; enough = omega arith; is = ap (replay_from (length bytes) bytes) zeros }
 
 module _ {bytes left : List ℕ} {tally : Tally} (c : Counted bytes left tally) where
-  pub one_counted : {item : Contents} {rest : List ℕ} → item_of left ≡ Some (item, rest) → length rest < length left → Counted bytes rest (with_call tally (differs_of item))
+  -- the next item is counted, and then those after it
+  next_counted : 0 < length left → (more : ℕ) × (length left ≤ suc more) × (with_item tally (item_of left) (replay_from more) ≡ replay_of bytes)
   unfolding replay_from
-  one_counted {item} {rest} e shorter = go c.more c.enough c.is
+  next_counted h = go c.more c.enough c.is
     where
-      go : (more : ℕ) → length left ≤ more → replay_from more left tally ≡ replay_of bytes → Counted bytes rest (with_call tally (differs_of item))
+      go : (more : ℕ) → length left ≤ more → replay_from more left tally ≡ replay_of bytes → (more : ℕ) × (length left ≤ suc more) × (with_item tally (item_of left) (replay_from more) ≡ replay_of bytes)
       go zero n i = absurd (omega arith)
-      go (suc more) n i = let some : 0 < length left = omega arith in record { more = more; enough = omega arith; is = rw (lt-ltb 0 (length left) some, e) at i }
-
-  pub cut_counted : {rest : List ℕ} → item_of left ≡ None → 0 < length left → length rest ≡ 0 → Counted bytes rest (with_call tally true)
-  unfolding replay_from
-  cut_counted {rest} e h ends = go c.more c.enough c.is
-    where
-      go : (more : ℕ) → length left ≤ more → replay_from more left tally ≡ replay_of bytes → Counted bytes rest (with_call tally true)
-      go zero n i = absurd (omega arith)
-      go (suc more) n i = record { more = 0; enough = omega arith; is = rw (lt-ltb 0 (length left) h, e) at i }
+      go (suc more) n i = (more, n, rw (lt-ltb 0 (length left) h) at i)
 
   pub all_counted : length left ≤ 0 → tally ≡ replay_of bytes
   unfolding replay_from
@@ -57,5 +50,11 @@ item_differs (Some item) = differs_of (contents item)
 -- the next item is counted, and what is left is shorter
 pub item_counted : {bytes : List ℕ} {tally : Tally} (old : Items) (item : Option Item) (new : Items) → Counted bytes old.left.now tally → GivesItem old (Some item) new
     → (length new.left.now < length old.left.now) × Counted bytes new.left.now (with_call tally (item_differs item))
-item_counted old None new c g = (omega (arith, g.1, g.2), cut_counted c g.0 g.1 g.2)
-item_counted old (Some item) new c g = (g.1, one_counted c g.0 g.1)
+unfolding replay_from
+item_counted old None new c g =
+    let next = next_counted c g.1 in
+    (omega (arith, g.1, g.2), record { more = 0; enough = omega (arith, g.2); is = rw g.0 at next.2 })
+item_counted old (Some item) new c g =
+    let some : 0 < length old.left.now = omega (arith, g.1) in
+    let next = next_counted c some in
+    (g.1, record { more = next.0; enough = omega (arith, g.1, next.1); is = rw g.0 at next.2 })

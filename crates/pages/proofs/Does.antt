@@ -4,7 +4,6 @@ use Rattle.pages.specs.declared.Memory.{Memory}
 use Rattle.pages.specs.Pages.{Pages, at, store}
 use Rattle.pages.specs.Prog.{Prog, done, ◌>>=◌, mapped, read, write, after, exec}
 use Rattle.pages.specs.Contract.{held, SameLent, Does, Gives}
-use Rattle.pages.specs.Stack.{up16, readop_of}
 use Rattle.pages.proofs.Pages.{at_page0, at_page1, store_page0, store_page1}
 use Rattle.pages.proofs.Exec.{bind_answer, bind_pages}
 

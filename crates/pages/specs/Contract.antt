@@ -1,6 +1,6 @@
 -- The words of the contracts: a function that is lent the memory does what an access program does.
 use Rattle.std.specs.Prelude.{◌≡◌}
-use Rattle.std.specs.Borrow.{Bor, MutBor}
+use Rattle.std.specs.Borrow.{MutBor}
 use denote.Triple.Both.{Both}
 use Rattle.pages.specs.declared.Memory.{Memory}
 use Rattle.pages.specs.declared.View.{View}

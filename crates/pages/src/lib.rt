@@ -44,8 +44,8 @@ fn byte_at(page: &[u8], at: usize) -> u8
     page.get(at).copied().unwrap_or(255)
 }
 
-// A write past the end is dropped. By `get_mut` its proof needed more than the test does.
-fn put_at(page: &mut [u8], at: usize, v: u8)
+// A write past the end is dropped. No `get_mut`: its contract says nothing of the page after the write, and the proof stays open.
+pub fn put_at(page: &mut [u8], at: usize, v: u8)
     ensures { page.new ≡ slice_set page.old at v }
 {
     if at < page.len() {

@@ -141,15 +141,6 @@ fn fill(page: &mut [u8], len: usize, rule: Rule)
     }
 }
 
-// A byte stored at an offset of a page; one past the end is dropped.
-fn store(page: &mut [u8], offset: usize, byte: u8)
-    ensures { page.new ≡ slice_set page.old offset byte }
-{
-    if offset < page.len() {
-        page[offset] = byte;
-    }
-}
-
 // The bytes that are set after the fill rule, in both pages: in groups of four the offset in two bytes, the page, and the byte. A group of another page sets
 // nothing, and nor do fewer than four bytes at the end.
 #[tactic(auto, using(crate::proofs::Groups::here, crate::proofs::Groups::elsewhere, crate::proofs::Groups::none_left))]
@@ -161,8 +152,8 @@ fn patch(page0: &mut [u8], page1: &mut [u8], sets: &[u8])
     for &[low, high, page, byte] in groups {
         let offset = usize::from(u16::from_le_bytes([low, high]));
         match page {
-            0 => store(page0, offset, byte),
-            1 => store(page1, offset, byte),
+            0 => pages::put_at(page0, offset, byte),
+            1 => pages::put_at(page1, offset, byte),
             _ => {}
         }
     }
@@ -234,6 +225,7 @@ impl Item<'_> {
             used: lent.log.unwrap_or(0),
         };
         let settings = Settings::from(c.asked);
+        // The call stands twice: the proof does not follow a borrow that a condition puts into an Option.
         let answer = match lent.log {
             None => run::run(c.cpu, page0, page1, None, settings),
             Some(_) => run::run(c.cpu, page0, page1, Some(&mut log), settings),
@@ -322,7 +314,7 @@ impl<'a> Items<'a> {
     }
 }
 
-// The items one after another. One that is cut off is given as none, and ends the list.
+// The items one after another. One that is cut off is given as `None`, and ends the list.
 impl<'a> Iterator for Items<'a> {
     ghost use Rattle.std.specs.Iterator.{at_most};
     ghost use Rattle.replay.specs.Calls.{GivesItem};

@@ -1,4 +1,4 @@
-// Flags and arithmetic of the LH5801.
+//! Flags and arithmetic of the LH5801.
 #![tactic(auto)]
 
 ghost use Rattle.std.specs.Prelude.{◌≡◌};
@@ -12,7 +12,7 @@ use crate::record::Lh5801;
 
 pub mod record;
 
-// Masks and no enum: get_flag and set_flag take any mask.
+/// Masks and no enum: get_flag and set_flag take any mask.
 pub const CF: u8 = 0x01;
 
 pub const IE: u8 = 0x02;
@@ -23,21 +23,21 @@ pub const VF: u8 = 0x08;
 
 pub const HF: u8 = 0x10;
 
-// A result of 8 or 16 bits with the T that goes with it.
+/// A result of 8 or 16 bits with the T that goes with it.
 #[derive(Clone, Copy, Debug, PartialEq, Eq)]
 pub struct Sum<T> {
     pub value: T,
     pub t: u8,
 }
 
-// A and the memory byte after a move of digits.
+/// A and the memory byte after a move of digits.
 #[derive(Clone, Copy, Debug, PartialEq, Eq)]
 pub struct Moved {
     pub a: u8,
     pub byte: u8,
 }
 
-// U after LOP has counted UL down, and whether it branches: no Option, since U changes either way.
+/// U after LOP has counted UL down, and whether it branches: no Option, since U changes either way.
 #[derive(Clone, Copy, Debug, PartialEq, Eq)]
 pub struct Looped {
     pub u: u16,
@@ -50,14 +50,14 @@ pub fn get_flag(t: u8, flag: u8) -> bool
     t & flag != 0
 }
 
-// T with the bits of a flag set or cleared.
+/// T with the bits of a flag set or cleared.
 pub fn set_flag(t: u8, flag: u8, value: bool) -> u8
     ensures { result ≡ set_flag t flag value }
 {
     if value { t | flag } else { t & !flag }
 }
 
-// T with Z from a value.
+/// T with Z from a value.
 pub fn check_z(t: u8, value: u8) -> u8
     ensures { result ≡ check_z t value }
 {
@@ -124,7 +124,7 @@ pub fn sbc(cpu: Lh5801, operand: u8) -> Lh5801
     with_sum(cpu, s)
 }
 
-// Only the flags of a - b.
+/// Only the flags of a - b.
 #[tactic(auto, unfolding(crate::specs::Sums::cpa_of))]
 pub fn cpa(cpu: Lh5801, a: u8, b: u8) -> Lh5801
     ensures { result ≡ cpa_of cpu a b }
@@ -144,7 +144,7 @@ fn adjustment(carry: bool, half: bool) -> u8
     }
 }
 
-// The flags are those of the sum before the adjustment.
+/// The flags are those of the sum before the adjustment.
 #[tactic(auto, unfolding(crate::specs::Decimal::decimal_sum_of))]
 pub fn decimaladd_generic(t: u8, left: u8, right: u8, carry: bool) -> Sum<u8>
     ensures { result ≡ decimal_sum_of t left right carry }
@@ -152,9 +152,8 @@ pub fn decimaladd_generic(t: u8, left: u8, right: u8, carry: bool) -> Sum<u8>
     let s = add_generic(t, left, right, carry);
     let c = get_flag(s.t, CF);
     let h = get_flag(s.t, HF);
-    let gain = adjustment(c, h);
-    let v = s.value.wrapping_add(gain);
-    Sum { value: v, t: s.t }
+    let value = s.value.wrapping_add(adjustment(c, h));
+    Sum { value, ..s }
 }
 
 #[tactic(auto, unfolding(crate::specs::Decimal::dca_of, crate::specs::Decimal::dca_sum))]
@@ -176,7 +175,7 @@ pub fn dcs(cpu: Lh5801, operand: u8) -> Lh5801
     with_sum(cpu, s)
 }
 
-// A loaded, and Z from it.
+/// A loaded, and Z from it.
 #[tactic(auto, unfolding(crate::specs::Logic::lda_of))]
 pub fn lda(cpu: Lh5801, operand: u8) -> Lh5801
     ensures { result ≡ lda_of cpu operand }
@@ -206,7 +205,7 @@ pub fn eor(cpu: Lh5801, operand: u8) -> Lh5801
     lda(cpu, cpu.a ^ operand)
 }
 
-// Z from the common bits of two bytes.
+/// Z from the common bits of two bytes.
 #[tactic(auto, unfolding(crate::specs::Logic::bit_test_of))]
 pub fn bit(cpu: Lh5801, a: u8, b: u8) -> Lh5801
     ensures { result ≡ bit_test_of cpu a b }
@@ -215,7 +214,7 @@ pub fn bit(cpu: Lh5801, a: u8, b: u8) -> Lh5801
     cpu.with_t(t)
 }
 
-// T to A with Z from it, and Z once more from the T so changed.
+/// T to A with Z from it, and Z once more from the T so changed.
 #[tactic(auto, unfolding(crate::specs::Logic::tta_of))]
 pub fn tta(cpu: Lh5801) -> Lh5801
     ensures { result ≡ tta_of cpu }
@@ -237,13 +236,13 @@ pub fn dec(t: u8, value: u8) -> Sum<u8>
     add_generic(t, value, 0xff, false)
 }
 
-// R + A, and T as it was. Document 01's two sums of bytes are this one of 16 bits, by adr_sum.
+/// R + A, and T as it was. Document 01's two sums of bytes are this one of 16 bits, by adr_sum.
 #[tactic(auto, using(crate::proofs::Flags::adr_sum), unfolding(crate::specs::Sums::adr_of))]
 pub fn adr(t: u8, reg: u16, a: u8) -> Sum<u16>
     ensures { result ≡ adr_of t reg a }
 {
-    let sum = reg.wrapping_add(u16::from(a));
-    Sum { value: sum, t }
+    let value = reg.wrapping_add(u16::from(a));
+    Sum { value, t }
 }
 
 // A one place to the left, with C, Z, V and H.
@@ -305,7 +304,7 @@ pub fn shr(cpu: Lh5801) -> Lh5801
     shifted_right(cpu, false)
 }
 
-// UL is tested before it is counted down; it wraps, and UH stays.
+/// UL is tested before it is counted down; it wraps, and UH stays.
 pub fn lop(u: u16) -> Looped
     ensures { result ≡ looped_of u }
 {
@@ -322,14 +321,14 @@ pub fn lop(u: u16) -> Looped
     }
 }
 
-// The two nibbles exchanged.
+/// The two nibbles exchanged.
 pub fn aex(a: u8) -> u8
     ensures { result ≡ aex_of a }
 {
     a % 16 * 16 + a / 16
 }
 
-// A and the memory byte after DRL.
+/// A and the memory byte after DRL.
 pub fn drl(a: u8, byte: u8) -> Moved
     ensures { result ≡ drl_moved a byte }
 {
@@ -339,7 +338,7 @@ pub fn drl(a: u8, byte: u8) -> Moved
     }
 }
 
-// A and the memory byte after DRR.
+/// A and the memory byte after DRR.
 pub fn drr(a: u8, byte: u8) -> Moved
     ensures { result ≡ drr_moved a byte }
 {

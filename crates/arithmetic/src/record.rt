@@ -1,4 +1,4 @@
-// The record of the LH5801: the fields of the Rust's `Lh5801` that document 01 keeps, by value.
+//! The record of the LH5801: the fields of the Rust's `Lh5801` that document 01 keeps, by value.
 #![tactic(auto, unfolding(crate::specs::Record::with_a, crate::specs::Record::with_t, crate::specs::Record::with_x, crate::specs::Record::with_y, crate::specs::Record::with_u, crate::specs::Record::with_s, crate::specs::Record::with_p, crate::specs::Record::with_is_halted, crate::specs::Record::with_pu, crate::specs::Record::with_pv, crate::specs::Record::with_bf, crate::specs::Record::with_disp, crate::specs::Record::with_tm, crate::specs::Record::with_ir0, crate::specs::Record::with_ir1, crate::specs::Record::with_ir2, crate::specs::Record::with_is_timer_reached, crate::specs::Record::with_timer_state, crate::specs::Record::with_step_previous_state, crate::specs::Record::with_ticks))]
 
 ghost use Rattle.std.specs.Prelude.{◌≡◌};
@@ -6,45 +6,45 @@ ghost use Rattle.arithmetic.specs.Record.{with_a, with_t, with_x, with_y, with_u
 
 #[derive(Clone, Copy, Debug, Default, PartialEq, Eq)]
 pub struct Lh5801 {
-    // accumulator
+    /// accumulator
     pub a: u8,
-    // flags: C 01, IE 02, Z 04, V 08, H 10; the upper three bits are only kept
+    /// flags: C 01, IE 02, Z 04, V 08, H 10; the upper three bits are only kept
     pub t: u8,
-    // register pairs
+    /// register pairs
     pub x: u16,
     pub y: u16,
     pub u: u16,
-    // stack pointer
+    /// stack pointer
     pub s: u16,
-    // program counter
+    /// program counter
     pub p: u16,
-    // HLT was executed, and no interrupt was taken since
+    /// HLT was executed, and no interrupt was taken since
     pub is_halted: bool,
-    // the output lines PU and PV
+    /// the output lines PU and PV
     pub pu: bool,
     pub pv: bool,
-    // power: while it is clear nothing is executed
+    /// power: while it is clear nothing is executed
     pub bf: bool,
-    // display on
+    /// display on
     pub disp: bool,
-    // timer value, 0 to 511: TM
+    /// timer value, 0 to 511: TM
     pub tm: u16,
-    // interrupt requests: IR0 (not maskable), IR1 (timer), IR2 (maskable)
+    /// interrupt requests: IR0 (not maskable), IR1 (timer), IR2 (maskable)
     pub ir0: bool,
     pub ir1: bool,
     pub ir2: bool,
-    // document 01's "timer reached"
+    /// document 01's "timer reached"
     pub is_timer_reached: bool,
-    // document 01's "timer states"
+    /// document 01's "timer states"
     pub timer_state: u64,
-    // document 01's "previous states": timer states at the last shift of TM or after the last CDV
+    /// document 01's "previous states": timer states at the last shift of TM or after the last CDV
     pub step_previous_state: u64,
-    // document 01's "ticks"
+    /// document 01's "ticks"
     pub ticks: u64,
 }
 
 impl Lh5801 {
-    // A parameter cannot name a field, so each has a setter of its own.
+    /// A parameter cannot name a field, so each has a setter of its own.
     pub fn with_a(self, v: u8) -> Self
         ensures { result ≡ with_a self v }
     {

@@ -1,5 +1,5 @@
 -- Entries noted one after the other, and what a log then holds.
-use Rattle.std.proofs.Common.{◌≡◌, ℕ, suc, ◌+◌, ◌-◌, ◌<◌, ◌≤◌, Bool, true, false, cond, not, ◌&&◌, ◌||◌, List, [], ◌∷◌, ◌++◌, map, length, take, drop, set, sym, refl, ap, ◌∙◌, add-zero, add-one, arith, length-append}
+use Rattle.std.proofs.Common.{◌≡◌, ℕ, suc, ◌+◌, ◌-◌, ◌%◌, ◌<◌, ◌≤◌, Bool, true, false, cond, not, ◌&&◌, ◌||◌, List, [], ◌∷◌, ◌++◌, map, length, take, drop, set, sym, refl, ap, ◌∙◌, add-zero, add-one, arith, length-append}
 use lib.ListN.{length-map}
 use lib.Seq.{sets, length-sets, sets-eq}
 use Rattle.pages.specs.Pages.{Pages, at}
@@ -79,10 +79,12 @@ step_appends m inputs pages h e p =
     rw same (grows_appends (omega (arith, h, ap length same, completed_few m inputs pages)) p)
 
 -- the bytes that are left: the next one, and the others
-pub bytes_next : (pages : Pages) (a k i : ℕ) → i < k → read_of a (at pages a) ∷ bytes_from pages (up16 a) (k - (i + 1)) ≡ bytes_from pages a (k - i)
-bytes_next pages a k i h =
+pub bytes_next : (pages : Pages) (from k i : ℕ) → i < k
+    → read_of ((from + i) % 65536) (at pages ((from + i) % 65536)) ∷ bytes_from pages ((from + (i + 1)) % 65536) (k - (i + 1)) ≡ bytes_from pages ((from + i) % 65536) (k - i)
+bytes_next pages from k i h =
     let e : k - i ≡ suc (k - (i + 1)) = omega (arith, h) in
-    rw e
+    let next : up16 ((from + i) % 65536) ≡ (from + (i + 1)) % 65536 = omega arith in
+    rw (e, next)
 
 noted_sets : (log : List ℕ) (i : ℕ) (xs : List Access) → noted log i xs ≡ sets log i (map entry_of xs)
 noted_sets log i [] = refl

@@ -1,6 +1,6 @@
-// The accesses of the coming step as entries of a log (document 02, F-2), computed from the record and the memory before the step. Nothing
-// here is called where no log is lent. What would go past the end of the list is dropped, and the caller sees to it that seven entries
-// are free.
+//! The accesses of the coming step as entries of a log (document 02, F-2), computed from the record and the memory before the step. Nothing
+//! here is called where no log is lent. What would go past the end of the list is dropped, and the caller sees to it that seven entries
+//! are free.
 #![tactic(auto)]
 
 ghost use Rattle.std.specs.Prelude.{◌≡◌, ◌≤◌, [], ◌∷◌};
@@ -14,12 +14,12 @@ use arithmetic::record::Lh5801;
 use execution::instructions::Condition;
 use execution::places::Place;
 use execution::shapes::{Action, Shape};
-use execution::{Opcode, flow, operations, places};
+use execution::{Opcode, places};
 use pages::View;
 
 mod tables;
 
-// Document 02's bus log: a lent list of entries, and how many of them are used.
+/// Document 02's bus log: a lent list of entries, and how many of them are used.
 #[derive(Drop)]
 pub struct BusLog<'a> {
     pub entries: &'a mut [u32],
@@ -64,9 +64,11 @@ impl BusLog<'_> {
             Kind::Read => 0,
             Kind::Write => 0x2000000,
         };
-        if self.used < self.entries.len() {
-            self.entries[self.used] = mark + (addr % 0x20000 * 256 + u32::from(byte));
-        }
+        pages::put_at(
+            self.entries,
+            self.used,
+            mark + (addr % 0x20000 * 256 + u32::from(byte)),
+        );
         self.used = self.used.wrapping_add(1);
     }
 
@@ -84,10 +86,8 @@ impl BusLog<'_> {
     fn bytes(&mut self, view: View, from: u16, k: u8)
         ensures { Notes (bytes_from (as_shared view) from k) self }
     {
-        let mut at = from;
-        for _ in 0..k {
-            self.read(view, u32::from(at));
-            at = at.wrapping_add(1);
+        for i in 0..k {
+            self.read(view, u32::from(from.wrapping_add(u16::from(i))));
         }
     }
 
@@ -134,11 +134,7 @@ impl BusLog<'_> {
             Action::Update(change) => {
                 let v = self.read(view, u32::from(p));
                 let b = self.read(view, addr);
-                self.note(
-                    Kind::Write,
-                    addr,
-                    operations::changed(cpu.t, change, b, v).value,
-                );
+                self.note(Kind::Write, addr, change.changed(cpu.t, b, v).value);
             }
             Action::Test => {
                 self.read(view, addr);
@@ -171,7 +167,7 @@ impl BusLog<'_> {
         ensures { Notes (vector_if_accesses cpu (as_shared view) c) self }
     {
         let nr = self.read(view, u32::from(cpu.p));
-        if flow::holds(cpu.t, c) {
+        if c.holds(cpu.t) {
             self.vector(view, cpu.s, cpu.p.wrapping_add(1), nr);
         }
     }
@@ -235,7 +231,7 @@ impl BusLog<'_> {
     }
 }
 
-// The entries of the coming step's accesses are appended, if the step is completed; none if it stops. The step's inputs do not matter.
+/// The entries of the coming step's accesses are appended, if the step is completed; none if it stops. The step's inputs do not matter.
 pub fn note_step(cpu: Lh5801, view: View, log: &mut BusLog)
     requires { log.old.used ≤ most }
     ensures { AppendsStep cpu view log }

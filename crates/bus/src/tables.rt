@@ -1,5 +1,5 @@
-// The shape of each opcode, what is read and written after its own bytes. Tables of their own, which a test computes against the decoding: with a
-// second caller the compiler no longer puts the decoding into the step, which then costs a third more.
+//! The shape of each opcode, what is read and written after its own bytes. Tables of their own, which shapes_right in proofs/Shapes.antt holds against the decoding: with a
+//! second caller the compiler no longer puts the decoding into the step, which then costs a third more.
 ghost use Rattle.std.specs.Prelude.{◌≡◌};
 ghost use Rattle.execution.specs.Code.Shapes.{shape_by};
 

@@ -1,4 +1,4 @@
-// Reads a campaign file from standard input, and prints document 01's line.
+//! Reads a campaign file from standard input, and prints document 01's line.
 #![tactic(auto)]
 
 use std::io;

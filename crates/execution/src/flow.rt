@@ -1,4 +1,4 @@
-// Branches, LOP, vectors, jumps and returns.
+//! Branches, LOP, vectors, jumps and returns.
 ghost use Rattle.std.specs.Prelude.{◌≡◌, ◌+◌, ◌-◌, ◌%◌};
 ghost use Rattle.pages.specs.Contract.{Changes, Reads};
 ghost use Rattle.execution.specs.Instructions.{holds_of, branched_of, branch_of, lop_of, vector_of, vector_if_of, jmp_of, sjp_of, rtn_of, rti_of};
@@ -7,19 +7,21 @@ use crate::instructions::{Condition, Direction};
 use arithmetic::record::Lh5801;
 use pages::{Memory, View};
 
-pub fn holds(t: u8, c: Condition) -> bool
-    ensures { result ≡ holds_of t c }
-{
-    match c {
-        Condition::NoCarry => !arithmetic::get_flag(t, arithmetic::CF),
-        Condition::Carry => arithmetic::get_flag(t, arithmetic::CF),
-        Condition::NoHalfCarry => !arithmetic::get_flag(t, arithmetic::HF),
-        Condition::HalfCarry => arithmetic::get_flag(t, arithmetic::HF),
-        Condition::NotZero => !arithmetic::get_flag(t, arithmetic::ZF),
-        Condition::Zero => arithmetic::get_flag(t, arithmetic::ZF),
-        Condition::NoOverflow => !arithmetic::get_flag(t, arithmetic::VF),
-        Condition::Overflow => arithmetic::get_flag(t, arithmetic::VF),
-        Condition::Always => true,
+impl Condition {
+    pub fn holds(self, t: u8) -> bool
+        ensures { result ≡ holds_of t self }
+    {
+        match self {
+            Condition::NoCarry => !arithmetic::get_flag(t, arithmetic::CF),
+            Condition::Carry => arithmetic::get_flag(t, arithmetic::CF),
+            Condition::NoHalfCarry => !arithmetic::get_flag(t, arithmetic::HF),
+            Condition::HalfCarry => arithmetic::get_flag(t, arithmetic::HF),
+            Condition::NotZero => !arithmetic::get_flag(t, arithmetic::ZF),
+            Condition::Zero => arithmetic::get_flag(t, arithmetic::ZF),
+            Condition::NoOverflow => !arithmetic::get_flag(t, arithmetic::VF),
+            Condition::Overflow => arithmetic::get_flag(t, arithmetic::VF),
+            Condition::Always => true,
+        }
     }
 }
 
@@ -38,14 +40,14 @@ pub fn branch(cpu: Lh5801, view: View, c: Condition, direction: Direction) -> Lh
     ensures { Reads (branch_of cpu c direction) view result }
 {
     let f = view.cpu_readop(cpu.p);
-    if holds(cpu.t, c) {
+    if c.holds(cpu.t) {
         branched(cpu, f.p, f.value, direction)
     } else {
         cpu.with_p(f.p)
     }
 }
 
-// UL is tested before it is counted down.
+/// UL is tested before it is counted down.
 pub fn lop(cpu: Lh5801, view: View) -> Lh5801
     ensures { Reads (lop_of cpu) view result }
 {
@@ -59,7 +61,7 @@ pub fn lop(cpu: Lh5801, view: View) -> Lh5801
     }
 }
 
-// A vector that is taken.
+/// A vector that is taken.
 pub fn vector(cpu: Lh5801, memory: &mut Memory, nr: u8) -> Lh5801
     ensures { Changes (vector_of cpu nr) memory result }
 {
@@ -74,7 +76,7 @@ pub fn vector_if(cpu: Lh5801, memory: &mut Memory, c: Condition) -> Lh5801
 {
     let f = memory.view().cpu_readop(cpu.p);
     let next = cpu.with_p(f.p);
-    if holds(cpu.t, c) {
+    if c.holds(cpu.t) {
         vector(next, memory, f.value)
     } else {
         next
@@ -102,7 +104,7 @@ pub fn rtn(cpu: Lh5801, view: View) -> Lh5801
     cpu.with_p(w.value).with_s(w.s)
 }
 
-// P and then the whole of T.
+/// P and then the whole of T.
 pub fn rti(cpu: Lh5801, view: View) -> Lh5801
     ensures { Reads (rti_of cpu) view result }
 {

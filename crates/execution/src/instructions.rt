@@ -1,7 +1,7 @@
-// Instructions, as decoding hands them over. The names are those of lh5801.rs or of the manual where there is one; the others, such as Memory or ToX, say in plain words what the kind does.
+//! Instructions, as decoding hands them over. The names are those of lh5801.rs or of the manual where there is one; the others, such as Memory or ToX, say in plain words what the kind does.
 use crate::places::{Half, Page, Place, Register};
 
-// What is done with A and an operand.
+/// What is done with A and an operand.
 #[derive(Clone, Copy)]
 pub enum Operation {
     Sbc,
@@ -16,7 +16,7 @@ pub enum Operation {
     Bit,
 }
 
-// What is done to a byte in memory with a byte in the code.
+/// What is done to a byte in memory with a byte in the code.
 #[derive(Clone, Copy)]
 pub enum Change {
     Ani,
@@ -24,7 +24,7 @@ pub enum Change {
     Adi,
 }
 
-// What a branch or a vector asks of the flags.
+/// What a branch or a vector asks of the flags.
 #[derive(Clone, Copy)]
 pub enum Condition {
     NoCarry,
@@ -38,7 +38,7 @@ pub enum Condition {
     Always,
 }
 
-// The word that X is copied to or set from.
+/// The word that X is copied to or set from.
 #[derive(Clone, Copy)]
 pub enum Word {
     Of(Register),
@@ -46,8 +46,8 @@ pub enum Word {
     P,
 }
 
-// What has no operand but A. Tta and Att are T to A and A to T, Ita is the input port to A, and Am0 and
-// Am1 are A to the timer, with its bit 8 clear and set.
+/// What has no operand but A. Tta and Att are T to A and A to T, Ita is the input port to A, and Am0 and
+/// Am1 are A to the timer, with its bit 8 clear and set.
 #[derive(Clone, Copy)]
 pub enum Accumulator {
     IncA,
@@ -64,14 +64,14 @@ pub enum Accumulator {
     Am1,
 }
 
-// Which way a branch goes.
+/// Which way a branch goes.
 #[derive(Clone, Copy)]
 pub enum Direction {
     Forward,
     Backward,
 }
 
-// What is set or cleared.
+/// What is set or cleared.
 #[derive(Clone, Copy)]
 pub enum Signal {
     Pu,
@@ -81,8 +81,8 @@ pub enum Signal {
     InterruptEnable,
 }
 
-// An instruction holds its operand place as a case inside its own case. The truth value of a signal
-// says that it is set, and the number of Vector is that of the vector, which VectorIf reads in the code.
+/// An instruction, with the place of its operand where it has one. The truth value of a signal
+/// says that it is set, and the number of Vector is that of the vector, which VectorIf reads in the code.
 #[derive(Clone, Copy)]
 pub enum Instruction {
     Alu(Operation, Place),
@@ -128,8 +128,8 @@ pub enum Instruction {
     Nop,
 }
 
-// An instruction with its states (document 01's term), without those that a taken branch or vector
-// adds.
+/// An instruction with its states (document 01's term), without those that a taken branch or vector
+/// adds.
 #[derive(Clone, Copy)]
 pub struct Listed {
     pub instruction: Instruction,

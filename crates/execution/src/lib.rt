@@ -1,4 +1,4 @@
-// Decoding and execution of one instruction, and one step.
+//! Decoding and execution of one instruction, and one step.
 #![tactic(auto)]
 
 ghost use Rattle.std.specs.Prelude.{◌≡◌, ◌<◌, true, false, if◌then◌else◌};
@@ -25,16 +25,16 @@ pub mod places;
 pub mod shapes;
 pub mod transfers;
 
-// What a step is given besides the record and the pages.
+/// What a step is given besides the record and the pages.
 #[derive(Clone, Copy)]
 pub struct Inputs {
     pub keyboard: u8,
-    // Document 02, F-1: how many states a halted step waits; with 0 it stops.
+    /// Document 02, F-1: how many states a halted step waits; with 0 it stops.
     pub idle: u8,
 }
 
 impl Inputs {
-    // The keyboard byte, and nothing else asked for.
+    /// The keyboard byte, and nothing else asked for.
     pub fn of_keyboard(keyboard: u8) -> Inputs
         ensures { result ≡ of_keyboard keyboard }
     {
@@ -42,21 +42,21 @@ impl Inputs {
     }
 }
 
-// The byte that names an instruction: the first, or the one after FD.
+/// The byte that names an instruction: the first, or the one after FD.
 #[derive(Clone, Copy)]
 pub enum Opcode {
     First(u8),
     AfterFd(u8),
 }
 
-// Why a step stops: document 01's 5 and 6 with the byte, and 7.
+/// Why a step stops: document 01's 5 and 6 with the byte, and 7.
 #[derive(Clone, Copy)]
 pub enum Stop {
     Unlisted(Opcode),
     Halted,
 }
 
-// How the step of an instruction is completed: with an instruction due again, or not.
+/// How the step of an instruction is completed: with an instruction due again, or not.
 #[derive(Clone, Copy)]
 pub enum Executed {
     Again(Lh5801),
@@ -129,41 +129,45 @@ pub fn fetch(p: u16, view: View) -> Code<Opcode>
     }
 }
 
-fn decode(opcode: Opcode) -> Option<Listed>
-    ensures { result ≡ decoded_by opcode }
-{
-    match opcode {
-        Opcode::First(byte) => opcodes::decode_first(byte),
-        Opcode::AfterFd(byte) => opcodes_fd::decode_fd(byte),
+impl Opcode {
+    fn decode(self) -> Option<Listed>
+        ensures { result ≡ decoded_by self }
+    {
+        match self {
+            Opcode::First(byte) => opcodes::decode_first(byte),
+            Opcode::AfterFd(byte) => opcodes_fd::decode_fd(byte),
+        }
     }
 }
 
-// Does an instruction keep BF, halted and IE?
-fn settled(i: Instruction) -> bool
-    ensures { result ≡ settled_of i }
-{
-    !matches!(
-        i,
-        Instruction::Rti
-            | Instruction::Off
-            | Instruction::Hlt
-            | Instruction::OnA(Accumulator::Att)
-            | Instruction::Sets(Signal::InterruptEnable, _)
-    )
+impl Instruction {
+    // Does an instruction keep BF, halted and IE?
+    fn settled(self) -> bool
+        ensures { result ≡ settled_of self }
+    {
+        !matches!(
+            self,
+            Instruction::Rti
+                | Instruction::Off
+                | Instruction::Hlt
+                | Instruction::OnA(Accumulator::Att)
+                | Instruction::Sets(Signal::InterruptEnable, _)
+        )
+    }
 }
 
-// The step of an instruction that is due: the record after it, and whether an instruction is due again; or the stop of an unlisted byte.
+/// The step of an instruction that is due: the record after it, and whether an instruction is due again; or the stop of an unlisted byte.
 pub fn instruction(cpu: Lh5801, memory: &mut Memory, inputs: Inputs) -> Result<Executed, Stop>
     requires { Ready cpu }
     ensures { Changes (mapped executed_of (step_of cpu inputs)) memory result × DueAgain result }
 {
     let opcode = fetch(cpu.p, memory.view());
-    let Some(listed) = decode(opcode.value) else {
+    let Some(listed) = opcode.value.decode() else {
         return Err(Stop::Unlisted(opcode.value));
     };
     let next = execute(cpu.with_p(opcode.p), memory, inputs, listed.instruction);
     // Asked before the timer part: after it, each step costs nine machine instructions more.
-    if settled(listed.instruction) {
+    if listed.instruction.settled() {
         let k = pages::timer_part(pages::add_state(next, listed.states));
         if k.is_timer_reached {
             Ok(Executed::Completed(k))
@@ -175,7 +179,7 @@ pub fn instruction(cpu: Lh5801, memory: &mut Memory, inputs: Inputs) -> Result<E
     }
 }
 
-// Timer reached moves to IR1.
+/// Timer reached moves to IR1.
 #[tactic(auto, unfolding(crate::specs::Step::reached_of))]
 pub fn reached(cpu: Lh5801) -> Lh5801
     ensures { result ≡ reached_of cpu }
@@ -217,7 +221,7 @@ fn powered_step(cpu: Lh5801, memory: &mut Memory, inputs: Inputs) -> Result<Lh58
     Ok(pages::wait(cpu, inputs.idle))
 }
 
-// An instruction is due: BF set, IR0 clear, no interrupt accepted, not halted.
+/// An instruction is due: BF set, IR0 clear, no interrupt accepted, not halted.
 pub fn due(cpu: Lh5801) -> bool
     ensures { result ≡ due_of cpu }
 {
@@ -227,7 +231,7 @@ pub fn due(cpu: Lh5801) -> bool
     cpu.bf & !other
 }
 
-// One step in which no instruction is due.
+/// One step in which no instruction is due.
 #[tactic(auto, using(crate::proofs::Order::reached_bf, crate::proofs::Order::reached_clear, crate::proofs::Order::reached_due, crate::proofs::Order::step_reached, crate::proofs::Order::step_off))]
 pub fn step_cpu(cpu: Lh5801, memory: &mut Memory, inputs: Inputs) -> Result<Lh5801, Stop>
     requires { due_of cpu ≡ false }

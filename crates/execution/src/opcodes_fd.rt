@@ -1,4 +1,4 @@
-// The opcodes after FD, written as those of the first page are. Rows 7 and F list nothing.
+//! The opcodes after FD, written as those of the first page are. Rows 7 and F list nothing.
 #![tactic(auto)]
 
 ghost use Rattle.std.specs.Prelude.{◌≡◌, None, slice_index_or};
@@ -174,7 +174,7 @@ fn row_e(column: u8) -> Option<Listed>
     }
 }
 
-// The instruction of a byte after FD: an arm for each row, as in the table.
+/// The instruction of a byte after FD: an arm for each row, as in the table.
 #[tactic(auto, unfolding(crate::specs::OpcodesFd::decoded_fd))]
 pub fn decode_fd(byte: u8) -> Option<Listed>
     ensures { result ≡ decoded_fd byte }

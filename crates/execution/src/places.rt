@@ -1,4 +1,4 @@
-// Operand places. Functions and no methods, since the record is the crate arithmetic's.
+//! Operand places.
 ghost use Rattle.std.specs.Prelude.{◌≡◌};
 ghost use Rattle.pages.specs.Contract.{Reads};
 ghost use Rattle.execution.specs.Places.{word_in, with_word, half_in, with_half, address_of, locate_of, operand_of};
@@ -13,8 +13,8 @@ pub enum Register {
     U,
 }
 
-// A half of a register. Missing stands for the register that rows 3 and 7 name and the LH5801 does
-// not have: it reads 0, and what is put there is lost.
+/// A half of a register. Missing stands for the register that rows 3 and 7 name and the LH5801 does
+/// not have: it reads 0, and what is put there is lost.
 #[derive(Clone, Copy)]
 pub enum Half {
     High(Register),
@@ -22,15 +22,15 @@ pub enum Half {
     Missing,
 }
 
-// Page 0 is addressed 0 to FFFF, page 1 is 10000 to 1FFFF.
+/// Page 0 is addressed 0 to FFFF, page 1 is 10000 to 1FFFF.
 #[derive(Clone, Copy)]
 pub enum Page {
     Me0,
     Me1,
 }
 
-// Where an operand lies: in a half of a register, in memory where a register points, in memory at
-// the word in the code, or in the code itself.
+/// Where an operand lies: in a half of a register, in memory where a register points, in memory at
+/// the word in the code, or in the code itself.
 #[derive(Clone, Copy)]
 pub enum Place {
     InHalf(Half),
@@ -88,8 +88,8 @@ pub fn paged(addr: u16, page: Page) -> u32
     }
 }
 
-// The address of a place in memory, and P after it was found; a half and a byte in the code have none, and no instruction
-// asks for it.
+/// The address of a place in memory, and P after it was found; a half and a byte in the code have none, and no instruction
+/// asks for it.
 #[tactic(auto, using(pages::proofs::Does::gives_done, pages::proofs::Does::gives_then), unfolding(crate::specs::Places::locate_of))]
 pub fn locate(cpu: Lh5801, view: View, place: Place) -> Code<u32>
     ensures { Reads (locate_of cpu place) view result }
@@ -110,7 +110,7 @@ pub fn locate(cpu: Lh5801, view: View, place: Place) -> Code<u32>
     }
 }
 
-// The byte of a place, and P after it was read.
+/// The byte of a place, and P after it was read.
 #[tactic(auto, using(pages::proofs::Does::gives_done, pages::proofs::Does::gives_then), unfolding(crate::specs::Places::operand_of))]
 pub fn operand(cpu: Lh5801, view: View, place: Place) -> Code<u8>
     ensures { Reads (operand_of cpu place) view result }

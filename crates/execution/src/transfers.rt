@@ -1,4 +1,4 @@
-// Register pairs, transfers through them, the stack's instructions, A alone, lines and flags.
+//! Register pairs, transfers through them, the stack's instructions, A alone, lines and flags.
 ghost use Rattle.std.specs.Prelude.{◌≡◌, if◌then◌else◌};
 ghost use Rattle.pages.specs.Contract.{Changes, Reads};
 ghost use Rattle.arithmetic.specs.Sums.{inc_of, dec_of, with_sum};
@@ -10,7 +10,7 @@ use crate::{operations, places};
 use arithmetic::record::Lh5801;
 use pages::{Memory, View};
 
-// A pair, up or down by one.
+/// A pair, up or down by one.
 #[tactic(auto, unfolding(crate::specs::Instructions::inc_word_of, crate::specs::Instructions::dec_word_of))]
 pub fn count_word<const UP: bool>(cpu: Lh5801, r: Register) -> Lh5801
     ensures { result ≡ (if UP then inc_word_of cpu r else dec_word_of cpu r) }
@@ -24,7 +24,7 @@ pub fn count_word<const UP: bool>(cpu: Lh5801, r: Register) -> Lh5801
     places::set_word(cpu, r, next)
 }
 
-// SIN and SDE: A to the byte that a pair points to, and the pair up or down.
+/// SIN and SDE: A to the byte that a pair points to, and the pair up or down.
 pub fn store_and_count<const UP: bool>(cpu: Lh5801, memory: &mut Memory, r: Register) -> Lh5801
     ensures { Changes (if UP then sin_of cpu r else sde_of cpu r) memory result }
 {
@@ -33,7 +33,7 @@ pub fn store_and_count<const UP: bool>(cpu: Lh5801, memory: &mut Memory, r: Regi
     count_word::<UP>(cpu, r)
 }
 
-// LIN and LDE: A from the byte that a pair points to, and the pair up or down.
+/// LIN and LDE: A from the byte that a pair points to, and the pair up or down.
 pub fn load_and_count<const UP: bool>(cpu: Lh5801, view: View, r: Register) -> Lh5801
     ensures { Reads (if UP then lin_of cpu r else lde_of cpu r) view result }
 {
@@ -42,7 +42,7 @@ pub fn load_and_count<const UP: bool>(cpu: Lh5801, view: View, r: Register) -> L
     count_word::<UP>(arithmetic::lda(cpu, b), r)
 }
 
-// S from the code.
+/// S from the code.
 pub fn load_s(cpu: Lh5801, view: View) -> Lh5801
     ensures { Reads (load_sOf cpu) view result }
 {
@@ -50,7 +50,7 @@ pub fn load_s(cpu: Lh5801, view: View) -> Lh5801
     cpu.with_s(w.value).with_p(w.p)
 }
 
-// The byte at X to Y, and both move up.
+/// The byte at X to Y, and both move up.
 pub fn tin(cpu: Lh5801, memory: &mut Memory) -> Lh5801
     ensures { Changes (tin_of cpu) memory result }
 {
@@ -61,7 +61,7 @@ pub fn tin(cpu: Lh5801, memory: &mut Memory) -> Lh5801
     cpu.with_x(x).with_y(y)
 }
 
-// A against the byte at X, and X moves up.
+/// A against the byte at X, and X moves up.
 pub fn cin(cpu: Lh5801, view: View) -> Lh5801
     ensures { Reads (cin_of cpu) view result }
 {
@@ -78,7 +78,7 @@ fn count_a<const UP: bool>(cpu: Lh5801) -> Lh5801
     cpu.with_a(s.value).with_t(s.t)
 }
 
-// On A alone; keyboard is the input port's byte.
+/// On A alone; keyboard is the input port's byte.
 pub fn accumulator(cpu: Lh5801, i: Accumulator, keyboard: u8) -> Lh5801
     ensures { result ≡ on_aOf cpu i keyboard }
 {
@@ -98,7 +98,7 @@ pub fn accumulator(cpu: Lh5801, i: Accumulator, keyboard: u8) -> Lh5801
     }
 }
 
-// Lines and flags.
+/// Lines and flags.
 pub fn signal(cpu: Lh5801, s: Signal, value: bool) -> Lh5801
     ensures { result ≡ signal_of cpu s value }
 {
@@ -111,7 +111,7 @@ pub fn signal(cpu: Lh5801, s: Signal, value: bool) -> Lh5801
     }
 }
 
-// A pair from the stack.
+/// A pair from the stack.
 pub fn pop_to(cpu: Lh5801, view: View, r: Register) -> Lh5801
     ensures { Reads (pop_to_of cpu r) view result }
 {
@@ -119,7 +119,7 @@ pub fn pop_to(cpu: Lh5801, view: View, r: Register) -> Lh5801
     places::set_word(cpu.with_s(w.s), r, w.value)
 }
 
-// A pair to the stack.
+/// A pair to the stack.
 #[tactic(auto, unfolding(crate::specs::Instructions::push_from_of))]
 pub fn push_from(cpu: Lh5801, memory: &mut Memory, r: Register) -> Lh5801
     ensures { Changes (push_from_of cpu r) memory result }
@@ -128,7 +128,7 @@ pub fn push_from(cpu: Lh5801, memory: &mut Memory, r: Register) -> Lh5801
     pages::push_word(cpu, memory, w)
 }
 
-// X from X, Y, U, S or P: X itself in FD 08, which changes nothing.
+/// X from X, Y, U, S or P: X itself in FD 08, which changes nothing.
 pub fn to_x(cpu: Lh5801, w: Word) -> Lh5801
     ensures { result ≡ to_xOf cpu w }
 {
@@ -139,7 +139,7 @@ pub fn to_x(cpu: Lh5801, w: Word) -> Lh5801
     }
 }
 
-// X to X, Y, U, S or P: X itself in FD 4A, which changes nothing.
+/// X to X, Y, U, S or P: X itself in FD 4A, which changes nothing.
 pub fn from_x(cpu: Lh5801, w: Word) -> Lh5801
     ensures { result ≡ from_xOf cpu w }
 {
@@ -150,7 +150,7 @@ pub fn from_x(cpu: Lh5801, w: Word) -> Lh5801
     }
 }
 
-// A pair and A, with T as it was.
+/// A pair and A, with T as it was.
 #[tactic(auto, unfolding(crate::specs::Instructions::adr_in_of))]
 pub fn adr(cpu: Lh5801, r: Register) -> Lh5801
     ensures { result ≡ adr_in_of cpu r }
@@ -159,7 +159,7 @@ pub fn adr(cpu: Lh5801, r: Register) -> Lh5801
     places::set_word(cpu.with_t(s.t), r, s.value)
 }
 
-// The divider starts again: as the 8 states are counted after this, previous takes them too.
+/// The divider starts again: as the 8 states are counted after this, previous takes them too.
 #[tactic(auto, unfolding(crate::specs::Instructions::cdv_of))]
 pub fn cdv(cpu: Lh5801) -> Lh5801
     ensures { result ≡ cdv_of cpu }
@@ -168,7 +168,7 @@ pub fn cdv(cpu: Lh5801) -> Lh5801
     cpu.with_step_previous_state(now)
 }
 
-// A word of the stack passed over.
+/// A word of the stack passed over.
 #[tactic(auto, unfolding(crate::specs::Instructions::drop_word_of))]
 pub fn drop_word(cpu: Lh5801) -> Lh5801
     ensures { result ≡ drop_word_of cpu }

@@ -1,4 +1,4 @@
-// Reading of input, for the programs.
+//! Reading of input, for the programs.
 #![tactic(auto)]
 
 ghost use Rattle.std.specs.Prelude.{◌<◌, ◌≤◌, length, take, IfOk};
@@ -7,8 +7,8 @@ ghost use Rattle.std.specs.Io.KnownBytes.{Consumes, IsAtEnd};
 use std::io;
 use std::io::Read;
 
-// Reads until the buffer is full or the reader ends, and returns how many bytes at the buffer's start were read. std's read_exact does not
-// tell how many where the reader ends early.
+/// Reads until the buffer is full or the reader ends, and returns how many bytes at the buffer's start were read. std's read_exact does not
+/// tell how many where the reader ends early.
 pub fn read_full<R: Read>(reader: &mut R, buffer: &mut [u8]) -> io::Result<usize>
     ensures count { IfOk result (λ n. n ≤ length buffer.new) }
     ensures bytes { IfOk result (λ n. Consumes (R.remaining reader.old) (R.remaining reader.new) (take n buffer.new)) }

@@ -1,4 +1,4 @@
-// The entry that a C or Rust program links: one run call.
+//! The entry that a C or Rust program links: one run call.
 #![tactic(auto)]
 
 ghost use Rattle.std.specs.Prelude.{◌≡◌};
@@ -13,7 +13,7 @@ use bus::BusLog;
 use execution::Inputs;
 use run::{Answer, Settings, record_numbers};
 
-// Words 0 to 11, each taken at its field's width; of the timer, 65,535 where it is more.
+// Words 0 to 11: the registers at their fields' widths, of the timer 65,535 where it is more, and the flags and the counters as they are.
 #[tactic(auto, unfolding(crate::specs::Words::taken_of))]
 fn taken(words: &[u64; 16]) -> [u64; 12]
     ensures { result ≡ taken_of words.now }
@@ -49,8 +49,8 @@ fn words_of(r: Answer) -> [u64; 16]
     words
 }
 
-// The run call; the used count after it is returned. `logged` says whether a log is lent, as C has no Option. In C: lh5801_call(words, page0, length0, page1, length1, limit, keyboard, idle, logged, log,
-// log_length, log_used).
+/// The run call; the used count after it is returned. `logged` says whether a log is lent, as C has no Option. In C: lh5801_call(words, page0, length0, page1, length1, limit, keyboard, idle, logged, log,
+/// log_length, log_used).
 #[unsafe(no_mangle)]
 pub extern "C" fn lh5801_call(
     words: &mut [u64; 16],

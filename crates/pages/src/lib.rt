@@ -1,4 +1,4 @@
-// Pages, stack and timer of the LH5801.
+//! Pages, stack and timer of the LH5801.
 #![tactic(auto)]
 
 ghost use Rattle.std.specs.Prelude.{◌≡◌, ◌<◌, set, slice_index_or, slice_set};
@@ -9,28 +9,28 @@ ghost use Rattle.pages.specs.Timer.{add_state_of, timer_inc_of, passed_of, timer
 
 use arithmetic::record::Lh5801;
 
-// The two lent pages as one memory.
+/// The two lent pages as one memory.
 #[derive(Drop)]
 pub struct Memory<'a> {
     pub page0: &'a mut [u8],
     pub page1: &'a mut [u8],
 }
 
-// The same pages, only to be read.
+/// The same pages, only to be read.
 #[derive(Clone, Copy)]
 pub struct View<'a> {
     pub page0: &'a [u8],
     pub page1: &'a [u8],
 }
 
-// A byte or a word of the code, and the place after it.
+/// What was read in the code or found by it, and the place after it.
 #[derive(Clone, Copy)]
 pub struct Code<T> {
     pub value: T,
     pub p: u16,
 }
 
-// A word from the stack, and S after it: no `Code`, whose place is P.
+/// A word from the stack, and S after it: no `Code`, whose place is P.
 #[derive(Clone, Copy)]
 pub struct Popped {
     pub value: u16,
@@ -44,16 +44,17 @@ fn byte_at(page: &[u8], at: usize) -> u8
     page.get(at).copied().unwrap_or(255)
 }
 
-// A write past the end is dropped. No `get_mut`: its contract says nothing of the page after the write, and the proof stays open.
-pub fn put_at(page: &mut [u8], at: usize, v: u8)
-    ensures { page.new ≡ slice_set page.old at v }
+/// Puts a value at a place of a list; past the end it is dropped. No `get_mut`: its contract says nothing of the list after the write, and the
+/// proof stays open.
+pub fn put_at<T: Copy>(list: &mut [T], at: usize, v: T)
+    ensures { list.new ≡ slice_set list.old at v }
 {
-    if at < page.len() {
-        page[at] = v;
+    if at < list.len() {
+        list[at] = v;
     }
 }
 
-// The address on page 1.
+/// The address on page 1.
 pub fn me1(addr: u16) -> u32
     ensures { result ≡ me1_of addr }
 {
@@ -67,7 +68,7 @@ pub fn word(high: u8, low: u8) -> u16
 }
 
 impl View<'_> {
-    // `as` here and below: no From gives a usize of a u32.
+    /// `as` here and below: no From gives a usize of a u32.
     #[tactic(auto, using(crate::proofs::Does::gives_read0, crate::proofs::Does::gives_read1))]
     pub fn read_byte(self, addr: u32) -> u8
         ensures { Reads (read addr) self result }
@@ -83,8 +84,8 @@ impl View<'_> {
         ensures { Reads (readop_of p) self result }
     {
         let value = self.read_byte(u32::from(p));
-        let next = p.wrapping_add(1);
-        Code { value, p: next }
+        let p = p.wrapping_add(1);
+        Code { value, p }
     }
 
     pub fn readop_word(self, p: u16) -> Code<u16>
@@ -96,7 +97,7 @@ impl View<'_> {
         Code { value, p: lo.p }
     }
 
-    // The word at an address, high byte first; the second address does not wrap.
+    /// The word at an address, high byte first; the second address does not wrap.
     pub fn get_mem16(self, addr: u16) -> u16
         ensures { Reads (mem16_of addr) self result }
     {
@@ -135,7 +136,7 @@ pub fn push(cpu: Lh5801, memory: &mut Memory, v: u8) -> Lh5801
     cpu.with_s(s)
 }
 
-// Low byte first.
+/// Low byte first.
 pub fn push_word(cpu: Lh5801, memory: &mut Memory, w: u16) -> Lh5801
     ensures { Changes (push_word_of cpu w) memory result }
 {
@@ -144,7 +145,7 @@ pub fn push_word(cpu: Lh5801, memory: &mut Memory, w: u16) -> Lh5801
     push(once, memory, high)
 }
 
-// A from the stack, and Z from it.
+/// A from the stack, and Z from it.
 pub fn pop(cpu: Lh5801, view: View) -> Lh5801
     ensures { Reads (pop_of cpu) view result }
 {
@@ -153,7 +154,7 @@ pub fn pop(cpu: Lh5801, view: View) -> Lh5801
     arithmetic::lda(cpu.with_s(s), b)
 }
 
-// High byte first.
+/// High byte first.
 pub fn pop_word(s: u16, view: View) -> Popped
     ensures { Reads (pop_word_of s) view result }
 {
@@ -174,7 +175,7 @@ fn push_state(cpu: Lh5801, memory: &mut Memory) -> Lh5801
     push_word(first.with_t(t), memory, cpu.p)
 }
 
-// An accepted interrupt.
+/// An accepted interrupt.
 pub fn accept(cpu: Lh5801, memory: &mut Memory, vector: u16) -> Lh5801
     ensures { Changes (accept_of cpu vector) memory result }
 {
@@ -183,7 +184,7 @@ pub fn accept(cpu: Lh5801, memory: &mut Memory, vector: u16) -> Lh5801
     pushed.with_p(at).with_is_halted(false)
 }
 
-// States pass, on the two counters.
+/// States pass, on the two counters.
 #[tactic(auto, unfolding(crate::specs::Timer::add_state_of))]
 pub fn add_state(cpu: Lh5801, n: u8) -> Lh5801
     ensures { result ≡ add_state_of cpu n }
@@ -193,7 +194,7 @@ pub fn add_state(cpu: Lh5801, n: u8) -> Lh5801
     cpu.with_timer_state(now).with_ticks(ticks)
 }
 
-// TM shifted once.
+/// TM shifted once.
 #[tactic(auto, unfolding(crate::specs::Timer::shift_of, crate::specs::Timer::timer_inc_of))]
 pub fn timer_inc(cpu: Lh5801) -> Lh5801
     ensures { result ≡ timer_inc_of cpu }
@@ -211,7 +212,7 @@ fn passed(cpu: Lh5801) -> u64
     cpu.timer_state.wrapping_sub(cpu.step_previous_state)
 }
 
-// One shift where 42 states or more have passed since previous was set.
+/// One shift where 42 states or more have passed since previous was set.
 #[tactic(auto, using(crate::proofs::Timer::timer_part_early, crate::proofs::Timer::timer_part_due))]
 pub fn timer_part(cpu: Lh5801) -> Lh5801
     ensures { result ≡ timer_part_of cpu }
@@ -223,7 +224,7 @@ pub fn timer_part(cpu: Lh5801) -> Lh5801
     }
 }
 
-// A waiting step: its states pass, and then the timer part.
+/// A waiting step: its states pass, and then the timer part.
 pub fn wait(cpu: Lh5801, idle: u8) -> Lh5801
     ensures { result ≡ timer_part_of (add_state_of cpu idle) }
 {

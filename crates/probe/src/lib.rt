@@ -1,4 +1,4 @@
-// C functions through which oracle/ runs the arithmetic against the original, on every input, and campaign files against its own reader.
+//! C functions through which oracle/ runs the arithmetic against the original, on every input, and campaign files against its own reader.
 #![tactic(auto)]
 
 ghost use Rattle.std.specs.Prelude.{◌≡◌};
@@ -46,7 +46,7 @@ fn of_moved(t: u8, m: Moved) -> u32
     pack(m.byte, m.a, t)
 }
 
-// The function of a number, as C has no enum of ours, on A, T and an operand: the byte stored (DRL and DRR; else 0), A and T.
+/// The function of a number, as C has no enum of ours, on A, T and an operand: the byte stored (DRL and DRR; else 0), A and T.
 #[unsafe(no_mangle)]
 #[tactic(auto, unfolding(crate::specs::Answers::arithmetic_answer))]
 pub extern "C" fn probe_arithmetic(function: u8, a: u8, t: u8, operand: u8) -> u32
@@ -79,7 +79,7 @@ pub extern "C" fn probe_arithmetic(function: u8, a: u8, t: u8, operand: u8) -> u
     }
 }
 
-// add_generic or decimaladd_generic: the result and T.
+/// add_generic or decimaladd_generic: the result and T.
 #[unsafe(no_mangle)]
 pub extern "C" fn probe_add(t: u8, left: u8, right: u8, carry: bool, decimal: bool) -> u32
     ensures { result ≡ add_answer decimal t left right carry }
@@ -91,7 +91,7 @@ pub extern "C" fn probe_add(t: u8, left: u8, right: u8, carry: bool, decimal: bo
     }
 }
 
-// ADR's sum and T.
+/// ADR's sum and T.
 #[unsafe(no_mangle)]
 pub extern "C" fn probe_adr(t: u8, reg: u16, a: u8) -> u32
     ensures { result ≡ adr_answer t reg a }
@@ -100,8 +100,8 @@ pub extern "C" fn probe_adr(t: u8, reg: u16, a: u8) -> u32
     u32::from(s.value) * 256 + u32::from(s.t)
 }
 
-// The line of a campaign file, as the program campaign prints it, at the start of a buffer; its length is returned.
-// In C: probe_report(bytes, length, out), with 200 bytes at out.
+/// The line of a campaign file, as the program campaign prints it, at the start of a buffer; its length is returned.
+/// In C: probe_report(bytes, length, out), with 200 bytes at out.
 #[unsafe(no_mangle)]
 pub extern "C" fn probe_report(bytes: &[u8], out: &mut [u8; 200]) -> usize
     ensures { Printed out.old (report_of bytes.now) out.new result }

@@ -1,17 +1,17 @@
-// Replays a list of the original's answers, and prints how many calls there were and how many differ. No Rust is needed for it.
-//
-// The list, data/answers0.bin and on, cut between items, was made by `oracle items 1500 --seed 7 --out DIR`; a test of the oracle makes it again. First
-// come 3,017 calls with the original's answers, where stops 1 to 4, 7 and 11 are the oracle's own: the 923 directed calls of `oracle list` without a log
-// and 1,500 random ones, every third of which has a log; then directed calls with a log: 187 short runs with used counts up to, at and beyond the list's
-// end, each listed opcode once, and the directed calls again, those of a million steps apart. In all 1,094 calls have a log, and 230 end with 11, 123 of
-// them after completed steps. Then come 121 files that are turned down with 8, 9 or 10: document 01's example cut at every place, with bytes left over,
-// with each field too great or too long, and with random bytes changed; their lines are the oracle's own reading, for the original has none.
-// An item, its numbers lowest byte first: the campaign file's length (2 bytes), the two pages' lengths (4 each), the line's length (1), the fill
-// rule's first byte and step (1 each), how many bytes are set after it (1), the log's used count, or 65,535 where no log is lent (2); the campaign file;
-// document 01's line; for each byte that is set its offset (2), page (1) and value (1); the two sums over what the call leaves (8 each): both pages, then
-// all entries of the list, then the used count. The pages lent are as long as the item says: the fill rule, then the campaign file's bytes at their start,
-// then the bytes that are set. So pages can be longer than a campaign file holds. The list has 64 entries, each FFFFFFFF before the call, also where no
-// log is lent; the used count is then 0.
+//! Replays a list of the original's answers, and prints how many calls there were and how many differ. No Rust is needed for it.
+//!
+//! The list, data/answers0.bin and on, cut between items, was made by `oracle items 1500 --seed 7 --out DIR`; a test of the oracle makes it again. First
+//! come 3,017 calls with the original's answers, where stops 1 to 4, 7 and 11 are the oracle's own: the 923 directed calls of `oracle list` without a log
+//! and 1,500 random ones, every third of which has a log; then directed calls with a log: 187 short runs with used counts up to, at and beyond the list's
+//! end, each listed opcode once, and 91 of the directed calls again, which are not of an opcode each and take less than a million steps. In all 1,094 calls
+//! have a log, and 230 end with 11, 123 of them after completed steps. Then come 121 files that are turned down with 8, 9 or 10: document 01's example cut at every place, with bytes left over,
+//! with each field too great or too long, and with random bytes changed; their lines are the oracle's own reading, for the original has none.
+//! An item, its numbers lowest byte first: the campaign file's length (2 bytes), the two pages' lengths (4 each), the line's length (1), the fill
+//! rule's first byte and step (1 each), how many bytes are set after it (1), the log's used count, or 65,535 where no log is lent (2); the campaign file;
+//! document 01's line; for each byte that is set its offset (2), page (1) and value (1); the two sums over what the call leaves (8 each): both pages, then
+//! all entries of the list, then the used count. The pages lent are as long as the item says: the fill rule, then the campaign file's bytes at their start,
+//! then the bytes that are set. So pages can be longer than a campaign file holds. The list has 64 entries, each FFFFFFFF before the call, also where no
+//! log is lent; the used count is then 0.
 #![tactic(auto)]
 
 ghost use Rattle.std.specs.Prelude.{◌≡◌, ℕ, ◌+◌, ◌^◌, ◌<◌, ◌≤◌, List, None, Some, length, take, IfOk, IfSome, MatchOption, slice_set};
@@ -101,8 +101,8 @@ impl Sums {
         ensures { (values : List ℕ) × AllZip T.converts numbers.now values × (result ≡ sums_of values self) }
     {
         let mut sums = self;
-        for number in numbers {
-            sums = sums.with_number((*number).into());
+        for &number in numbers {
+            sums = sums.with_number(number.into());
         }
         sums
     }
@@ -194,11 +194,11 @@ fn sums_after(page0: &[u8], page1: &[u8], entries: &[u32], used: usize) -> Sums
 
 // Is the line of a file that was turned down another one?
 #[tactic(auto, unfolding(crate::specs::Calls::refusal_differs_of))]
-fn refusal_differs(stop: Refusal, want: &[u8]) -> bool
-    ensures { result ≡ refusal_differs_of stop want.now }
+fn refusal_differs(refusal: Refusal, want: &[u8]) -> bool
+    ensures { result ≡ refusal_differs_of refusal want.now }
 {
     let mut out = [0u8; 200];
-    let n = line::refusal_line(&mut out, stop.number(), stop.offset() as u64);
+    let n = line::refusal_line(&mut out, refusal.number(), refusal.offset() as u64);
     &out[..n] != want
 }
 
@@ -213,7 +213,7 @@ impl Item<'_> {
         let lent = self.lent;
         let mut page0 = [0u8; 65537];
         let mut page1 = [0u8; 65537];
-        let mut entries = [0xffff_ffffu32; 64];
+        let mut entries = [u32::MAX; 64];
         let mut out = [0u8; 200];
         prepare(&mut page0, lent.len0, lent.rule, self.file, c.page0);
         prepare(&mut page1, lent.len1, lent.rule, self.file, c.page1);
@@ -251,7 +251,7 @@ impl Item<'_> {
         }
         match read {
             Ok(c) => self.call_differs(c),
-            Err(stop) => refusal_differs(stop, self.want),
+            Err(refusal) => refusal_differs(refusal, self.want),
         }
     }
 }
@@ -368,7 +368,7 @@ fn replay_path<R: Files>(rt: &R, path: &str) -> io::Result<Tally>
     replay_file(&mut file)
 }
 
-// Both parts of the list, modulo 2^64.
+// Two tallies together, modulo 2^64.
 #[tactic(auto, unfolding(crate::specs::Numbers::both_of))]
 fn both(a: Tally, b: Tally) -> Tally
     ensures { result ≡ both_of a b }

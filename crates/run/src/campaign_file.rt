@@ -1,5 +1,5 @@
-// Document 01's campaign file: the record, the keyboard byte and the limit, and the two pages of one call, as bytes.
-// A `Cursor` goes over the bytes; each field is read from its place on, and the place moves to the field's end, or the field is turned down.
+//! Document 01's campaign file: the record, the keyboard byte and the limit, and the two pages of one call, as bytes.
+//! A `Cursor` goes over the bytes; each field is read from its place on, and the place moves to the field's end, or the field is turned down.
 ghost use Rattle.std.specs.Prelude.{◌≡◌, length};
 ghost use Rattle.run.specs.RecordNumbers.{AllWithin};
 ghost use Rattle.run.specs.CampaignFile.{refusal_number, refusal_offset, number_of, greatest_values, numbers_of, page_of, parsed_of, campaign_of};
@@ -19,46 +19,46 @@ const GREATEST: [u64; 14] = [
     65535,
     4095,
     511,
-    0xffff_ffff_ffff_ffff,
-    0xffff_ffff_ffff_ffff,
-    0xffff_ffff_ffff_ffff,
+    u64::MAX,
+    u64::MAX,
+    u64::MAX,
     255,
     0xffff_ffff,
 ];
 
-// The bytes of a file, and a place of it.
+/// The bytes of a file, and a place of it.
 #[derive(Clone, Copy)]
 pub struct Cursor<'a> {
     pub bytes: &'a [u8],
     pub at: usize,
 }
 
-// Why a file is turned down, each with the offset that document 01 names.
+/// Why a file is turned down, each with the offset that document 01 names.
 #[derive(Clone, Copy)]
 pub enum Refusal {
-    // 8: the bytes end before or inside a number or page, which begins here
+    /// 8: the bytes end before or inside a number or page, which begins here
     Ends(usize),
-    // 9: the number that begins here is not shortest, is over ten groups, or is above its field's greatest
+    /// 9: the number that begins here is not shortest, is over ten groups, or is above its field's greatest
     Unfit(usize),
-    // 10: bytes are left over, and this is the first
+    /// 10: bytes are left over, and this is the first
     LeftOver(usize),
 }
 
-// What the file asks of the call: its keyboard byte and its limit.
+/// What the file asks of the call: its keyboard byte and its limit.
 #[derive(Clone, Copy)]
 pub struct Asked {
     pub keyboard: u8,
     pub limit: u32,
 }
 
-// Where a page's bytes begin in the file, and how many they are.
+/// Where a page's bytes begin in the file, and how many they are.
 #[derive(Clone, Copy)]
 pub struct PagePlace {
     pub at: usize,
     pub len: usize,
 }
 
-// What a campaign file says: the record, what is asked of the call, and where the two pages' bytes lie in the file.
+/// What a campaign file says: the record, what is asked of the call, and where the two pages' bytes lie in the file.
 #[derive(Clone, Copy)]
 pub struct Parsed {
     pub cpu: Lh5801,
@@ -68,7 +68,7 @@ pub struct Parsed {
 }
 
 impl Refusal {
-    // Document 01's number for a refusal.
+    /// Document 01's number for a refusal.
     pub fn number(self) -> u8
         ensures { result ≡ refusal_number self }
     {
@@ -79,7 +79,7 @@ impl Refusal {
         }
     }
 
-    // Its offset.
+    /// Its offset.
     pub fn offset(self) -> usize
         ensures { result ≡ refusal_offset self }
     {
@@ -90,8 +90,8 @@ impl Refusal {
 }
 
 impl Cursor<'_> {
-    // One number: groups of seven bits, the lowest first, the top bit set on all but the last. It has to be written in the shortest way and
-    // to be at most its field's greatest value.
+    /// One number: groups of seven bits, the lowest first, the top bit set on all but the last. It has to be written in the shortest way and
+    /// to be at most its field's greatest value.
     pub fn number(&mut self, greatest: u64) -> Result<u64, Refusal>
         ensures { Reads (number_of greatest) self result }
     {
@@ -99,8 +99,8 @@ impl Cursor<'_> {
         let Some(rest) = self.bytes.get(begin..) else {
             return Err(Refusal::Ends(begin));
         };
-        let mut weight: u64 = 1;
-        let mut value: u64 = 0;
+        let mut weight = 1;
+        let mut value = 0;
         for (count, &byte) in rest.iter().enumerate() {
             let group = u64::from(byte);
             // The tenth group weighs 2^63: only 1 is neither longer than needed nor too great.
@@ -121,7 +121,7 @@ impl Cursor<'_> {
         Err(Refusal::Ends(begin))
     }
 
-    // The fourteen numbers, one after another: each takes the place of its field's greatest value.
+    /// The fourteen numbers, one after another: each takes the place of its field's greatest value.
     pub fn numbers(&mut self) -> Result<[u64; 14], Refusal>
         ensures { Reads (numbers_of greatest_values) self result }
     {
@@ -132,7 +132,7 @@ impl Cursor<'_> {
         Ok(values)
     }
 
-    // A page's length, then so many bytes.
+    /// A page's length, then so many bytes.
     #[tactic(auto, using(crate::proofs::CampaignFile::Number::number_within), unfolding(crate::specs::CampaignFile::page_of, crate::specs::CampaignFile::bytes_of))]
     pub fn page(&mut self) -> Result<PagePlace, Refusal>
         ensures { Reads page_of self result }
@@ -165,7 +165,7 @@ fn parsed_of(values: &[u64; 14], page0: PagePlace, page1: PagePlace) -> Parsed
     }
 }
 
-// A whole campaign file: its fields in order, and then no byte more.
+/// A whole campaign file: its fields in order, and then no byte more.
 #[tactic(auto, using(crate::proofs::CampaignFile::InTurn::page_read, crate::proofs::CampaignFile::InTurn::numbers_within), unfolding(crate::specs::CampaignFile::campaign_of, crate::specs::CampaignFile::ended))]
 pub fn read_campaign(bytes: &[u8]) -> Result<Parsed, Refusal>
     ensures { campaign_of bytes.now 0 ≡ field_of result (length bytes.now) }

@@ -1,4 +1,4 @@
-// The run call.
+//! The run call.
 #![tactic(auto)]
 
 ghost use Rattle.std.specs.Prelude.{◌≡◌, ◌+◌, ◌<◌, ◌≤◌, true, false};
@@ -24,14 +24,14 @@ pub mod parts;
 pub mod record_numbers;
 pub mod report;
 
-// What a call is given besides the record, the pages and the log.
+/// What a call is given besides the record, the pages and the log.
 #[derive(Clone, Copy)]
 pub struct Settings {
     pub inputs: Inputs,
     pub limit: u32,
 }
 
-// Why a call ended: all its steps done, not accepted, the log full before a step, or a step's stop.
+/// Why a call ended: all its steps done, not accepted, the log full before a step, or a step's stop.
 #[derive(Clone, Copy)]
 pub enum End {
     AllSteps,
@@ -44,7 +44,7 @@ pub enum End {
 }
 
 impl End {
-    // Document 01's number of a call's end.
+    /// Document 01's number of a call's end.
     pub fn number(self) -> u8
         ensures { result ≡ end_number self }
     {
@@ -61,7 +61,7 @@ impl End {
         }
     }
 
-    // Document 01's byte of a call's end.
+    /// Document 01's byte of a call's end.
     pub fn byte(self) -> u8
         ensures { result ≡ end_byte self }
     {
@@ -72,7 +72,7 @@ impl End {
     }
 }
 
-// What a call returns.
+/// What a call returns.
 #[derive(Clone, Copy)]
 pub struct Answer {
     pub end: End,
@@ -94,8 +94,8 @@ fn answered(cpu: Lh5801, first: u64, steps: u32, end: End) -> Answer
     }
 }
 
-// What a stretch of steps led to: how many of the call are now completed, the record after them, and the stop of the next step; where there is none, any
-// step may come.
+/// What a stretch of steps led to: how many of the call are now completed, the record after them, and the stop of the next step; where there is none, any
+/// step may come.
 #[derive(Clone, Copy)]
 pub struct Led {
     pub steps: u32,
@@ -191,7 +191,7 @@ fn steps_of(cpu: Lh5801, memory: &mut Memory, settings: Settings) -> Answer
 {
     let first = cpu.ticks;
     let mut current = cpu;
-    let mut steps: u32 = 0;
+    let mut steps = 0;
     while steps < settings.limit {
         let led = advance(current, memory, settings, steps);
         current = led.cpu;
@@ -287,7 +287,7 @@ fn not_accepted(cpu: Lh5801, memory: &Memory, settings: Settings) -> Option<End>
     None
 }
 
-// The run call: not accepted, or its steps. A bus log may be lent to it.
+/// The run call: not accepted, or its steps. A bus log may be lent to it.
 pub fn run(
     cpu: Lh5801,
     page0: &mut [u8],

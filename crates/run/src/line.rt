@@ -1,6 +1,6 @@
-// The line that the program prints, as bytes that are written one after another.
-// The longest line has 138 bytes: 3 + 10 + 20 digits for number, steps and states, 2 + 2 + 5 * 4 + 3 + 3 hex digits, 3 * 20 digits for the
-// counters, and a byte after each of the 15 fields. With every decimal field taken at 20 digits it is 165, which a buffer of 200 holds.
+//! The line that the program prints, as bytes that are written one after another.
+//! The longest line has 138 bytes: 3 + 10 + 20 digits for number, steps and states, 2 + 2 + 5 * 4 + 3 + 3 hex digits, 3 * 20 digits for the
+//! counters, and a byte after each of the 15 fields. With every decimal field taken at 20 digits it is 165, which a buffer of 200 holds.
 ghost use Rattle.std.specs.Prelude.{◌≡◌, ◌+◌, ◌<◌, ◌≤◌, List, ℕ, [], ◌∷◌, ◌++◌, length, take};
 ghost use Rattle.run.specs.Line.{Printed, space, hex_digit, decimal_of, hex_of, joined, count_fields, register_fields, counter_fields, line_of, refusal_line_of};
 ghost use Rattle.run.specs.Code.LineParts.{spaced};
@@ -152,7 +152,7 @@ impl LineText {
     }
 }
 
-// The line of a call: its bytes in the buffer, and how many they are.
+/// The line of a call: its bytes in the buffer, and how many they are.
 #[tactic(auto, using(std::proofs::Common::append_assoc), unfolding(crate::specs::Line::line_of))]
 pub fn line(buffer: &mut [u8; 200], number: u8, steps: u32, states: u64, cpu: Lh5801) -> usize
     ensures { Printed buffer.old (line_of number steps states cpu) buffer.new result }
@@ -164,7 +164,7 @@ pub fn line(buffer: &mut [u8; 200], number: u8, steps: u32, states: u64, cpu: Lh
     text.store(buffer)
 }
 
-// The line of a campaign file that is turned down: likewise.
+/// The line of a campaign file that is turned down: likewise.
 #[tactic(auto, using(std::proofs::Common::append_assoc), unfolding(crate::specs::Line::refusal_line_of))]
 pub fn refusal_line(buffer: &mut [u8; 200], number: u8, offset: u64) -> usize
     ensures { Printed buffer.old (refusal_line_of number offset) buffer.new result }

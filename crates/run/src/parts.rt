@@ -1,4 +1,4 @@
-// Parts of buffers: bytes of a file put at the start of a page, and the run call on the starts of two pages.
+//! Parts of buffers: bytes of a file put at the start of a page, and the run call on the starts of two pages.
 ghost use Rattle.std.specs.Prelude.{◌≡◌, ◌+◌, ◌≤◌, length};
 ghost use Rattle.run.specs.Parts.{part, at_start, RunParts};
 
@@ -6,7 +6,7 @@ use crate::{Answer, Settings};
 use arithmetic::record::Lh5801;
 use bus::BusLog;
 
-// So many bytes, from a place on, to the start of a page: place and length are numbers of the file, which are checked before.
+/// So many bytes, from a place on, to the start of a page: place and length are numbers of the file, which are checked before.
 #[tactic(auto, using(crate::proofs::Stored::range_part, crate::proofs::Stored::part_length, crate::proofs::Stored::put_before))]
 pub fn copy_part(bytes: &[u8], at: usize, page: &mut [u8], len: usize)
     requires { (at + len ≤ length bytes.now) × (len ≤ length page.old) }
@@ -15,7 +15,7 @@ pub fn copy_part(bytes: &[u8], at: usize, page: &mut [u8], len: usize)
     page[..len].copy_from_slice(&bytes[at..at + len]);
 }
 
-// The run call on the starts of two pages.
+/// The run call on the starts of two pages.
 pub fn run_parts(
     cpu: Lh5801,
     page0: &mut [u8],

@@ -1,10 +1,10 @@
-// A record as twelve numbers, and back: A, T, X, Y, U, S, P, TM, flags, timer states, previous states and ticks.
+//! A record as twelve numbers, and back: A, T, X, Y, U, S, P, TM, flags, timer states, previous states and ticks.
 ghost use Rattle.std.specs.Prelude.{◌≡◌, ◌≤◌, length, take};
 ghost use Rattle.run.specs.RecordNumbers.{flags_of, record_numbers, record_of, AllWithin, widths};
 
 use arithmetic::record::Lh5801;
 
-// The flags as one number. Its bits: halted, PU, PV, BF, DISP, IR0, IR1, IR2, timer reached.
+/// The flags as one number. Its bits: halted, PU, PV, BF, DISP, IR0, IR1, IR2, timer reached.
 #[tactic(auto, using(crate::proofs::RecordNumbers::from_bool_bit, crate::proofs::RecordNumbers::flags_small), unfolding(crate::specs::RecordNumbers::flags_of))]
 pub fn flags_of(cpu: Lh5801) -> u16
     ensures { (result ≡ flags_of cpu) × (result ≤ 511) }
@@ -17,7 +17,7 @@ pub fn flags_of(cpu: Lh5801) -> u16
     middle + 128 * u16::from(cpu.ir2) + 256 * u16::from(cpu.is_timer_reached)
 }
 
-// The numbers of a record, each within its field's width.
+/// The numbers of a record, each within its field's width.
 pub fn from_record(cpu: Lh5801) -> [u64; 12]
     ensures { (result ≡ record_numbers cpu) × AllWithin widths (record_numbers cpu) }
 {
@@ -37,7 +37,7 @@ pub fn from_record(cpu: Lh5801) -> [u64; 12]
     ]
 }
 
-// The record of the first twelve numbers, by their places in the file. `as`: each is within its field. The counters have 64 bits, as the numbers do, and of the flags nine bits are looked at.
+/// The record of the first twelve numbers, in the order of the file and of C's words. `as`: each is within its field. The counters have 64 bits, as the numbers do, and of the flags nine bits are looked at.
 #[tactic(auto, using(crate::proofs::RecordNumbers::within_at), unfolding(crate::specs::RecordNumbers::record_of))]
 pub fn record_of(numbers: &[u64]) -> Lh5801
     requires { (12 ≤ length numbers.now) × AllWithin (take 8 widths) numbers.now }

@@ -1,4 +1,4 @@
-// A campaign file, from its bytes to the line that the program prints.
+//! A campaign file, from its bytes to the line that the program prints.
 ghost use Rattle.std.specs.Prelude.{◌≡◌, ◌+◌, ◌≤◌, length, None};
 ghost use Rattle.run.specs.Run.{call_of};
 ghost use Rattle.run.specs.Line.{Printed};
@@ -42,20 +42,20 @@ fn file_answer(bytes: &[u8], c: Parsed) -> Answer
     )
 }
 
-// The line of a call.
+/// The line of a call.
 pub fn answer_line(out: &mut [u8; 200], a: Answer) -> usize
     ensures { Printed out.old (answer_line a) out.new result }
 {
     line::line(out, a.end.number(), a.steps, a.states, a.cpu)
 }
 
-// The line of a campaign file, at the start of a buffer; its length is returned.
+/// The line of a campaign file, at the start of a buffer; its length is returned.
 #[tactic(auto, using(crate::proofs::Reading::file_within, crate::proofs::Reading::report_read, crate::proofs::Reading::report_refused))]
 pub fn report(bytes: &[u8], out: &mut [u8; 200]) -> usize
     ensures { Printed out.old (report_of bytes.now) out.new result }
 {
     match campaign_file::read_campaign(bytes) {
         Ok(c) => answer_line(out, file_answer(bytes, c)),
-        Err(stop) => line::refusal_line(out, stop.number(), stop.offset() as u64),
+        Err(refusal) => line::refusal_line(out, refusal.number(), refusal.offset() as u64),
     }
 }

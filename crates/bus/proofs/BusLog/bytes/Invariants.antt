@@ -1,4 +1,4 @@
-use Rattle.std.proofs.Common.{◌≡◌, ◌-◌, List, ◌++◌}
+use Rattle.std.proofs.Common.{◌≡◌, ◌+◌, ◌-◌, ◌%◌, List, ◌++◌}
 use Rattle.pages.specs.Prog.{Access}
 use Rattle.pages.specs.Contract.{seen}
 use Rattle.execution.specs.Code.Shapes.{bytes_from}
@@ -6,7 +6,7 @@ use Rattle.bus.specs.Code.Notes.{Grows}
 use Rattle.bus.proofs.BusLog.bytes.Given as goal
 
 -- the bytes so far are noted, and before those that are left they make all
-abbrev pub invariant-loop : goal.invariant-loop
-invariant-loop l =
+abbrev pub invariant-loop-i : goal.invariant-loop-i
+invariant-loop-i l =
     (done : List Access) × Grows done l.initial.self l.self
-    × (done ++ bytes_from (seen l.view) l.at (l.k - l.counter) ≡ bytes_from (seen l.view) l.from l.k)
+    × (done ++ bytes_from (seen l.view) ((l.from + l.i) % 65536) (l.k - l.i) ≡ bytes_from (seen l.view) l.from l.k)

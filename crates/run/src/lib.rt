@@ -216,10 +216,9 @@ fn total(before: Answer, after: Answer) -> Answer
     ensures { result ≡ answer_of after.end (before.steps + after.steps) (before.states + after.states) after.cpu }
 {
     Answer {
-        end: after.end,
         steps: before.steps + after.steps,
         states: before.states + after.states,
-        cpu: after.cpu,
+        ..after
     }
 }
 

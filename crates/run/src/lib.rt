@@ -223,6 +223,7 @@ fn total(before: Answer, after: Answer) -> Answer
 }
 
 // The same with a log: it is looked at before each step, and the coming step's accesses are appended, none if it will stop.
+// Cold, so that it stays a function of its own: a step then takes some 35 machine instructions fewer (docs/TRIED.md).
 #[cold]
 fn logged_steps(cpu: Lh5801, memory: &mut Memory, log: &mut BusLog, settings: Settings) -> Answer
     requires { settings.limit ≤ 1000000 }

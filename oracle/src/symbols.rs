@@ -27,10 +27,10 @@ fn is_text(kind: char) -> bool {
     "TtWwi".contains(kind)
 }
 
-/// A function that computes a log's entries, not exported: of the crate `bus`, or the run's own look
-/// at the log before a step; or the loop over steps.
+/// A function that a log needs, not exported: of the crate `bus`, which computes its entries, or the
+/// run's own loop with a log; or the loop over steps.
 fn is_of_log(kind: char, name: &str) -> bool {
-    kind == 't' && ["bus", "note_coming", "run::steps_of"].iter().any(|it| name.contains(it))
+    kind == 't' && ["bus", "run::logged_steps", "run::steps_of"].iter().any(|it| name.contains(it))
 }
 
 /// Is the entry exported, and is every other function the log's?
@@ -86,7 +86,7 @@ mod tests {
     fn another_function_is_found() {
         let with = |line: &str| entry_alone(&symbols(&format!("0000 T lh5801_call\n{line}\n")));
         assert!(with("0000 t bus::note_at"));
-        assert!(with("0000 t run::note_coming"));
+        assert!(with("0000 t run::logged_steps"));
         assert!(with("0000 t run::steps_of"));
         assert!(!with("0000 T run::steps_of"));
         assert!(!with("0000 t run::advance"));

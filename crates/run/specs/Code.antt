@@ -3,4 +3,3 @@ pub mod Leads
 pub mod States
 pub mod FileAnswers
 pub mod LineParts
-pub mod Coming

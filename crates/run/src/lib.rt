@@ -11,12 +11,11 @@ ghost use Rattle.run.specs.Run.{run_of, call_of};
 ghost use Rattle.run.specs.Answers.{lent_free, CallAnswers};
 ghost use Rattle.run.specs.Code.Leads.{unmoved_of, LeadsIn};
 ghost use Rattle.run.specs.Code.States.{answer_of, states_between, AnswersIn, LoggedIn};
-ghost use Rattle.run.specs.Code.Coming.{NotesComing};
 
 use arithmetic::record::Lh5801;
 use bus::BusLog;
 use execution::{Executed, Inputs, Opcode, Stop};
-use pages::{Memory, View};
+use pages::Memory;
 
 pub mod campaign_file;
 pub mod line;
@@ -211,56 +210,40 @@ fn log_full(log: &BusLog) -> bool
     length < log.used || length - log.used < 7
 }
 
-// Before a step of a call with a log: is the log full (11)? If not, the coming step's accesses are appended, none if it will stop.
-fn note_coming(cpu: Lh5801, view: View, log: &mut BusLog) -> bool
-    ensures { NotesComing cpu view log.old result log.new }
-{
-    if log_full(log) {
-        return true;
-    }
-    bus::note_step(cpu, view, log);
-    false
-}
-
 // Steps, and then more of them: counted together, with the end and the record of the later ones.
 fn total(before: Answer, after: Answer) -> Answer
     requires { (before.steps + after.steps ≤ 1000000) × (before.states + after.states ≤ 255000000) }
     ensures { result ≡ answer_of after.end (before.steps + after.steps) (before.states + after.states) after.cpu }
 {
     Answer {
-        end: after.end,
         steps: before.steps + after.steps,
         states: before.states + after.states,
-        cpu: after.cpu,
+        ..after
     }
 }
 
-// The same with a log: it is looked at before each step.
+// The same with a log: it is looked at before each step, and the coming step's accesses are appended, none if it will stop.
+// Cold, so that it stays a function of its own: a step then takes some 35 machine instructions fewer (docs/TRIED.md).
+#[cold]
 fn logged_steps(cpu: Lh5801, memory: &mut Memory, log: &mut BusLog, settings: Settings) -> Answer
     requires { settings.limit ≤ 1000000 }
     ensures { LoggedIn (run_of settings.limit settings.inputs (Some (free_of (held_log log.old))) cpu (at_entry memory)) memory.entry.now result memory.exit.now log.old log.new }
 {
     let one = Settings {
-        inputs: settings.inputs,
         limit: 1,
+        ..settings
     };
-    let mut all = Answer {
-        end: End::AllSteps,
-        steps: 0,
-        states: 0,
-        cpu,
-    };
-    while all.steps < settings.limit {
-        // A record of its own is lent to the look: the loop's would stand in memory.
-        if note_coming(unmoved(all.cpu, all.cpu), memory.view(), log) {
+    let mut all = answered(cpu, cpu.ticks, 0, End::AllSteps);
+    for _ in 0..settings.limit {
+        if log_full(log) {
             return Answer {
                 end: End::LogFull,
                 ..all
             };
         }
-        let step = steps_of(all.cpu, memory, one);
-        all = total(all, step);
-        if step.steps == 0 {
+        bus::note_step(all.cpu, memory.view(), log);
+        all = total(all, steps_of(all.cpu, memory, one));
+        if let End::Step(_) = all.end {
             return all;
         }
     }

@@ -1,37 +1,35 @@
 use Rattle.std.proofs.Common.{sym, ◌∙◌, arith, rules}
-use Rattle.run.proofs.Loop.{unmoved_same}
-use Rattle.run.proofs.LoggedSteps.{logging_start, logging_done, logging_full, logging_steps, logging_states, logging_next, logging_stops}
+use Rattle.run.proofs.BusLog.{logged_by}
+use Rattle.run.proofs.LoggedSteps.{logging_start, logging_done, logging_full, logging_room, logging_steps, logging_states, logging_next, logging_stops}
 use Rattle.run.proofs.logged_steps.Goals as goal
 
-pub loop-all-init : goal.loop-all-init
-loop-all-init c = logging_start c.args.settings _ c.args.cpu _
+pub loop-init : goal.loop-init
+loop-init c = logging_start _ _ _ _ c.answered-all.ensures
 
-pub returns-then-note_coming : goal.returns-then-note_coming
-returns-then-note_coming c =
-    let seen = c.note_coming.ensures in
-    rw (seen.kept c.if-note_coming.true) (logging_full c.loop-all.invariant c.loop-all-test.true (sym seen.full_is ∙ c.if-note_coming.true))
+pub returns-then-log_full : goal.returns-then-log_full
+returns-then-log_full c = logging_full c.loop.invariant c.loop-test.true (sym c.log_full.ensures ∙ c.if-log_full.true)
 
-pub steps_of-step-requires : goal.steps_of-step-requires
-steps_of-step-requires c = omega arith
+pub note_step-requires : goal.note_step-requires
+note_step-requires c = logging_room c.loop.invariant (search rules) (sym c.log_full.ensures ∙ c.if-log_full.false)
 
 pub total-all-requires : goal.total-all-requires
 total-all-requires c =
-    let step = c.steps_of-step.ensures in
-    omega (arith, logging_steps c.loop-all.invariant step c.loop-all-test.true, logging_states c.loop-all.invariant step c.loop-all-test.true (search rules), c.requires)
+    let step = c.steps_of.ensures in
+    omega (arith, logging_steps c.loop.invariant c.loop-test.true step, logging_states c.loop.invariant c.loop-test.true step (search rules), c.requires)
 
-pub returns-then-step-eq0 : goal.returns-then-step-eq0
-returns-then-step-eq0 c =
-    let seen = c.note_coming.ensures in
+pub returns-in-Step : goal.returns-in-Step
+returns-in-Step c =
     rw c.total-all.ensures
-    (logging_stops c.loop-all.invariant c.steps_of-step.ensures c.loop-all-test.true (sym seen.full_is ∙ c.if-note_coming.false)
-    (rw (c.view.ensures, c.unmoved.ensures, unmoved_same c.loop-all.all.cpu) at (seen.noted c.if-note_coming.false c.args.settings.inputs)) c.if-step-eq0.true)
+    (logging_stops c.loop.invariant c.loop-test.true c.steps_of.ensures (sym c.log_full.ensures ∙ c.if-log_full.false)
+    (rw c.view.ensures at (logged_by _ (c.note_step.ensures c.args.settings.inputs)))
+    (rw c.total-all.ensures at c.in-Step.is))
 
-pub loop-all-preserved : goal.loop-all-preserved
-loop-all-preserved c =
-    let seen = c.note_coming.ensures in
+pub loop-preserved : goal.loop-preserved
+loop-preserved c =
     rw c.total-all.ensures
-    (logging_next c.loop-all.invariant c.steps_of-step.ensures c.loop-all-test.true (sym seen.full_is ∙ c.if-note_coming.false)
-    (rw (c.view.ensures, c.unmoved.ensures, unmoved_same c.loop-all.all.cpu) at (seen.noted c.if-note_coming.false c.args.settings.inputs)) c.if-step-eq0.false)
+    (logging_next c.loop.invariant c.loop-test.true c.steps_of.ensures (sym c.log_full.ensures ∙ c.if-log_full.false)
+    (rw c.view.ensures at (logged_by _ (c.note_step.ensures c.args.settings.inputs)))
+    (rw c.total-all.ensures at c.in_default.not-Step))
 
 pub returns : goal.returns
-returns c = logging_done c.loop-all.invariant c.loop-all-test.false
+returns c = logging_done c.loop.invariant c.loop-test.false c.loop.auto.counter-end

@@ -5,7 +5,7 @@ use Rattle.std.specs.Int.{from_bool}
 use Rattle.replay.specs.declared.Item.{Item}
 use Rattle.replay.specs.declared.Items.{Items}
 use Rattle.replay.specs.declared.Tally.{Tally}
-use Rattle.replay.specs.Calls.{contents, differs_of, item_of, with_call, with_item, replay_from, replay_of, GivesItem}
+use Rattle.replay.specs.Calls.{contents, differs_of, item_in, with_call, with_item, replay_from, replay_of, GivesItem}
 
 -- a call that differs counts as 1
 pub from_bool_small : (b : Bool) → from_bool b ≤ 1
@@ -26,11 +26,11 @@ none_counted bytes {tally} none =
 
 module _ {bytes left : List ℕ} {tally : Tally} (c : Counted bytes left tally) where
   -- the next item is counted, and then those after it
-  next_counted : 0 < length left → (more : ℕ) × (length left ≤ suc more) × (with_item tally (item_of left) (replay_from more) ≡ replay_of bytes)
+  next_counted : 0 < length left → (more : ℕ) × (length left ≤ suc more) × (with_item tally (item_in left) (replay_from more) ≡ replay_of bytes)
   unfolding replay_from
   next_counted h = go c.more c.enough c.is
     where
-      go : (more : ℕ) → length left ≤ more → replay_from more left tally ≡ replay_of bytes → (more : ℕ) × (length left ≤ suc more) × (with_item tally (item_of left) (replay_from more) ≡ replay_of bytes)
+      go : (more : ℕ) → length left ≤ more → replay_from more left tally ≡ replay_of bytes → (more : ℕ) × (length left ≤ suc more) × (with_item tally (item_in left) (replay_from more) ≡ replay_of bytes)
       go zero n i = absurd (omega arith)
       go (suc more) n i = (more, n, rw (lt-ltb 0 (length left) h) at i)
 

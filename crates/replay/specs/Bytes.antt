@@ -33,8 +33,8 @@ patch_of page which (low ∷ high ∷ []) = page
 patch_of page which (low ∷ high ∷ number ∷ []) = page
 
 -- a page before the bytes that are set: the fill rule, then the file's bytes
-unfoldable pub prepare_of : List ℕ → ℕ → Rule → List ℕ → PagePlace → List ℕ
-prepare_of page len rule file place = copy_page_of file place.at (fill_of page len rule.first rule.step) place.len
+unfoldable pub filled_page_of : List ℕ → ℕ → Rule → List ℕ → PagePlace → List ℕ
+filled_page_of page len rule file place = copy_page_of file place.at (fill_of page len rule.first rule.step) place.len
 
 -- two lists are not the same bytes
 abbrev pub bytes_differ : List ℕ → List ℕ → Bool

@@ -16,7 +16,7 @@ use Rattle.replay.specs.declared.Item.{Item}
 use Rattle.replay.specs.declared.Items.{Items}
 use Rattle.replay.specs.declared.Tally.{Tally}
 use Rattle.replay.specs.Numbers.{number_at, sums_after_of, same_sums}
-use Rattle.replay.specs.Bytes.{patch_of, prepare_of, bytes_differ}
+use Rattle.replay.specs.Bytes.{patch_of, filled_page_of, bytes_differ}
 
 -- what an item says, by value: a campaign file, what is lent to its call, the bytes that are set, and the line and the sums that are wanted
 pub record Contents : Type 0 where
@@ -60,8 +60,8 @@ log_left (Some used) l = appended (log_of unused used) l
 unfoldable pub call_result_of : Contents → Parsed → CallResult
 call_result_of item c =
     run_parts_of (settings_in c.asked) (free_in (lent_log item.lent.log)) c.cpu
-    (patch_of (prepare_of blank item.lent.len0 item.lent.rule item.file c.page0) 0 item.sets) item.lent.len0
-    (patch_of (prepare_of blank item.lent.len1 item.lent.rule item.file c.page1) 1 item.sets) item.lent.len1
+    (patch_of (filled_page_of blank item.lent.len0 item.lent.rule item.file c.page0) 0 item.sets) item.lent.len0
+    (patch_of (filled_page_of blank item.lent.len1 item.lent.rule item.file c.page1) 1 item.sets) item.lent.len1
 
 -- the sums over both pages after a call, then over all entries of the list, then over the used count
 abbrev pub result_sums : Option ℕ → CallResult → Sums
@@ -110,8 +110,8 @@ number len = do
   given (number_at len bytes 0)
 
 -- an item: its numbers, its campaign file, its line, the bytes that are set, four for each, and the two sums
-unfoldable pub item_of : Reader Contents
-item_of = do
+unfoldable pub item_in : Reader Contents
+item_in = do
   file_len ← number 2
   len0 ← number 4
   len1 ← number 4
@@ -133,8 +133,8 @@ item_of = do
 -- the next item of those that are left: there is no byte left; or the item is cut off, and the list ends with it; or it is read, and fewer bytes are left
 abbrev pub GivesItem : Items → Option (Option Item) → Items → Type 0
 GivesItem old None new = length old.left.now ≡ 0
-GivesItem old (Some None) new = (item_of old.left.now ≡ None) × (0 < length old.left.now) × (length new.left.now ≡ 0)
-GivesItem old (Some (Some item)) new = (item_of old.left.now ≡ Some (contents item, new.left.now)) × (length new.left.now < length old.left.now)
+GivesItem old (Some None) new = (item_in old.left.now ≡ None) × (0 < length old.left.now) × (length new.left.now ≡ 0)
+GivesItem old (Some (Some item)) new = (item_in old.left.now ≡ Some (contents item, new.left.now)) × (length new.left.now < length old.left.now)
 
 -- one call more, and one more that differs where it does
 abbrev pub with_call : Tally → Bool → Tally
@@ -148,7 +148,7 @@ with_item tally (Some found) rest = rest found.1 (with_call tally (differs_of fo
 -- the items of a list, of which there are at most so many as the first argument says, counted after those before them
 unfoldable pub replay_from : ℕ → List ℕ → Tally → Tally
 replay_from zero list tally = tally
-replay_from (suc more) list tally = cond (nat_lt 0 (length list)) (with_item tally (item_of list) (replay_from more)) tally
+replay_from (suc more) list tally = cond (nat_lt 0 (length list)) (with_item tally (item_in list) (replay_from more)) tally
 
 -- the whole list. An item has at least one byte, so there are at most as many items as bytes
 unfoldable pub replay_of : List ℕ → Tally

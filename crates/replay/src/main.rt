@@ -17,8 +17,8 @@
 ghost use Rattle.std.specs.Prelude.{◌≡◌, ℕ, ◌+◌, ◌^◌, ◌<◌, ◌≤◌, List, None, Some, length, take, IfOk, IfSome, MatchOption, slice_set};
 ghost use Rattle.std.specs.List.{AllZip};
 ghost use Rattle.replay.specs.Numbers.{with_number, sums_of, sums_after_of, both_of, next_byte_of};
-ghost use Rattle.replay.specs.Bytes.{fill_of, copy_page_of, patch_of, prepare_of};
-ghost use Rattle.replay.specs.Calls.{contents, refusal_differs_of, log_in, call_differs_of, differs_of, taken, number, item_of, replay_of, Replayed};
+ghost use Rattle.replay.specs.Bytes.{fill_of, copy_page_of, patch_of, filled_page_of};
+ghost use Rattle.replay.specs.Calls.{contents, refusal_differs_of, log_in, call_differs_of, differs_of, taken, number, item_in, replay_of, Replayed};
 
 use bus::BusLog;
 use run::campaign_file::{PagePlace, Parsed, Refusal};
@@ -160,9 +160,9 @@ fn patch(page0: &mut [u8], page1: &mut [u8], sets: &[u8])
 }
 
 // A page before the bytes that are set: the fill rule, then the file's bytes.
-#[tactic(auto, unfolding(crate::specs::Bytes::prepare_of))]
+#[tactic(auto, unfolding(crate::specs::Bytes::filled_page_of))]
 fn prepare(page: &mut [u8], len: usize, rule: Rule, file: &[u8], place: PagePlace)
-    ensures { page.new ≡ prepare_of page.old len rule file.now place }
+    ensures { page.new ≡ filled_page_of page.old len rule file.now place }
 {
     fill(page, len, rule);
     copy_page(page, file, place);
@@ -281,9 +281,9 @@ impl<'a> Items<'a> {
     }
 
     // The first item. `as`: of a number of four bytes usize has all.
-    #[tactic(auto, unfolding(crate::specs::Calls::item_of, crate::specs::Calls::number, crate::specs::Numbers::number_at))]
+    #[tactic(auto, unfolding(crate::specs::Calls::item_in, crate::specs::Calls::number, crate::specs::Numbers::number_at))]
     fn item(&mut self) -> Option<Item<'a>>
-        ensures item { MatchOption result (item_of self.old.left.now ≡ None) (λ item. item_of self.old.left.now ≡ Some (contents item, self.new.left.now)) }
+        ensures item { MatchOption result (item_in self.old.left.now ≡ None) (λ item. item_in self.old.left.now ≡ Some (contents item, self.new.left.now)) }
         ensures shorter { IfSome result (λ _. length self.new.left.now + 32 ≤ length self.old.left.now) }
     {
         let file_len = u16::from_le_bytes(self.read_array()?);

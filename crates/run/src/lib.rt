@@ -241,8 +241,7 @@ fn logged_steps(cpu: Lh5801, memory: &mut Memory, log: &mut BusLog, settings: Se
                 ..all
             };
         }
-        // A setter's copy of the record goes to the look ahead, so that the loop's own stays in registers.
-        bus::note_step(unmoved(all.cpu, all.cpu), memory.view(), log);
+        bus::note_step(all.cpu, memory.view(), log);
         all = total(all, steps_of(all.cpu, memory, one));
         if let End::Step(_) = all.end {
             return all;

@@ -1,6 +1,5 @@
 use Rattle.std.proofs.Common.{sym, ◌∙◌, arith, rules}
 use Rattle.run.proofs.BusLog.{logged_by}
-use Rattle.run.proofs.Loop.{unmoved_same}
 use Rattle.run.proofs.LoggedSteps.{logging_start, logging_done, logging_full, logging_room, logging_steps, logging_states, logging_next, logging_stops}
 use Rattle.run.proofs.logged_steps.Goals as goal
 
@@ -22,14 +21,14 @@ pub returns-in-Step : goal.returns-in-Step
 returns-in-Step c =
     rw c.total-all.ensures
     (logging_stops c.loop.invariant c.loop-test.true c.steps_of.ensures (sym c.log_full.ensures ∙ c.if-log_full.false)
-    (rw (c.view.ensures, c.unmoved.ensures, unmoved_same c.loop.all.cpu) at (logged_by _ (c.note_step.ensures c.args.settings.inputs)))
+    (rw c.view.ensures at (logged_by _ (c.note_step.ensures c.args.settings.inputs)))
     (rw c.total-all.ensures at c.in-Step.is))
 
 pub loop-preserved : goal.loop-preserved
 loop-preserved c =
     rw c.total-all.ensures
     (logging_next c.loop.invariant c.loop-test.true c.steps_of.ensures (sym c.log_full.ensures ∙ c.if-log_full.false)
-    (rw (c.view.ensures, c.unmoved.ensures, unmoved_same c.loop.all.cpu) at (logged_by _ (c.note_step.ensures c.args.settings.inputs)))
+    (rw c.view.ensures at (logged_by _ (c.note_step.ensures c.args.settings.inputs)))
     (rw c.total-all.ensures at c.in_default.not-Step))
 
 pub returns : goal.returns

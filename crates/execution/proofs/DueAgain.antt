@@ -4,9 +4,8 @@ use Rattle.arithmetic.specs.declared.record.Lh5801.{Lh5801}
 use Rattle.arithmetic.specs.Record.{with_p}
 use Rattle.arithmetic.proofs.Status.{Status, status_of, with_timer, keeps_p}
 use Rattle.pages.specs.Timer.{add_state_of, timer_part_of}
-use Rattle.pages.specs.declared.Memory.{Memory}
-use Rattle.pages.specs.Prog.{Prog}
-use Rattle.pages.specs.Contract.{held, Does}
+use Rattle.pages.specs.Pages.{Pages}
+use Rattle.pages.specs.Prog.{Prog, exec}
 use Rattle.pages.proofs.Always.{Always, always_exec}
 use Rattle.pages.proofs.Timer.{timer_part_status, states_status}
 use Rattle.execution.specs.declared.Inputs.{Inputs}
@@ -16,13 +15,13 @@ use Rattle.execution.specs.States.{added_of}
 use Rattle.execution.specs.Code.Due.{Ready, settled_of}
 use Rattle.execution.proofs.Effects.{Effect, due_in, executed}
 
--- what always holds of a program's answer holds of what it does
-does_always : (P : Lh5801 → Type 0) {k : Lh5801} {l q : Memory} (p : Prog Lh5801) → Always P p → Does p l k q → P k
-does_always P {l = l} p h d = subst P (sym d.value) (always_exec P p h (held l))
+-- what always holds of a program's answer holds of what it answers
+does_always : (P : Lh5801 → Type 0) {k : Lh5801} (l : Pages) (p : Prog Lh5801) → Always P p → k ≡ (exec p l).answer → P k
+does_always P l p h d = subst P (sym d) (always_exec P p h l)
 
-module _ (m : Lh5801) (p : ℕ) (inputs : Inputs) (i : Instruction) (n : ℕ) {l q : Memory} {k : Lh5801} (d : Does (execute_of (with_p m p) inputs i) l k q) where
+module _ (m : Lh5801) (p : ℕ) (inputs : Inputs) (i : Instruction) (n : ℕ) (l : Pages) {k : Lh5801} (d : k ≡ (exec (execute_of (with_p m p) inputs i) l).answer) where
   after : Effect (with_p m p) (added_of (with_p m p) i) (settled_of i) k
-  after = does_always _ (execute_of (with_p m p) inputs i) (executed (with_p m p) inputs i) d
+  after = does_always _ l (execute_of (with_p m p) inputs i) (executed (with_p m p) inputs i) d
 
   states_ready : settled_of i ≡ true → Ready m → Ready (add_state_of k n)
   states_ready s h =
@@ -40,14 +39,14 @@ timer_ready m h e =
     }
 
 -- what code knows: after a settled instruction and a timer part that did not reach 1FF an instruction is due again
-pub again : (m : Lh5801) (p : ℕ) (inputs : Inputs) (i : Instruction) (n : ℕ) {l q : Memory} {k now r : Lh5801}
+pub again : (m : Lh5801) (p : ℕ) (inputs : Inputs) (i : Instruction) (n : ℕ) (l : Pages) {k now r : Lh5801}
     → settled_of i ≡ true
     → Ready m
-    → Does (execute_of (with_p m p) inputs i) l k q
+    → k ≡ (exec (execute_of (with_p m p) inputs i) l).answer
     → now ≡ add_state_of k n
     → r ≡ timer_part_of now
     → r.is_timer_reached ≡ false
     → Ready r
-again m p inputs i n {k = k} {r = r} s h d e f c =
+again m p inputs i n l {k = k} {r = r} s h d e f c =
     let z : r ≡ timer_part_of (add_state_of k n) = f ∙ ap timer_part_of e in
-    subst Ready (sym z) (timer_ready (add_state_of k n) (states_ready m p inputs i n d s h) (subst (λ (x : Lh5801). x.is_timer_reached ≡ false) z c))
+    subst Ready (sym z) (timer_ready (add_state_of k n) (states_ready m p inputs i n l d s h) (subst (λ (x : Lh5801). x.is_timer_reached ≡ false) z c))

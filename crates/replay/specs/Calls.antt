@@ -6,7 +6,7 @@ use Rattle.run.specs.declared.campaign_file.Parsed.{Parsed}
 use Rattle.run.specs.declared.campaign_file.Refusal.{Refusal}
 use Rattle.run.specs.CampaignFile.{Field, read, refused, campaign_of, refusal_number, refusal_offset}
 use Rattle.run.specs.Line.{refusal_line_of}
-use Rattle.run.specs.BusLog.{Log, log_of, free_in, appended}
+use Rattle.run.specs.BusLog.{Log, log_of, free_in, with_entries}
 use Rattle.run.specs.Run.{CallResult}
 use Rattle.run.specs.Report.{settings_in, answer_line}
 use Rattle.run.specs.Parts.{run_parts_of}
@@ -54,7 +54,7 @@ lent_log (Some used) = Some (log_of unused used)
 -- the list and the used count after these accesses; without a log the list is as it was, and the count 0
 abbrev pub log_left : Option ℕ → List Access → Log
 log_left None l = log_of unused 0
-log_left (Some used) l = appended (log_of unused used) l
+log_left (Some used) l = with_entries (log_of unused used) l
 
 -- the call of an item's file, which was read, on the pages and with the log that the item lends
 unfoldable pub call_result_of : Contents → Parsed → CallResult

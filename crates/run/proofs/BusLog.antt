@@ -7,7 +7,7 @@ use Rattle.std.specs.Borrow.{MutBor}
 use Rattle.bus.specs.declared.BusLog.{BusLog}
 use Rattle.bus.specs.Code.Notes.{Appends}
 use Rattle.bus.proofs.Notes.{noted_append, noted_length}
-use Rattle.run.specs.BusLog.{Log, log_of, held_log, free_of, free_in, free_after, appended}
+use Rattle.run.specs.BusLog.{Log, log_of, held_log, free_of, free_in, free_after, with_entries}
 use Rattle.run.specs.CutLog.{left_after}
 use Rattle.run.specs.Answers.{Logged}
 
@@ -21,24 +21,24 @@ after_append None k l = refl
 after_append (Some n) k l = ap Some (omega (arith, length-append k l))
 
 module _ (log : Log) where
-  pub appended_none : appended log [] ≡ log
-  unfolding appended
+  pub appended_none : with_entries log [] ≡ log
+  unfolding with_entries
   appended_none = ap (log_of log.entries) (add-zero log.used)
 
-  pub appended_then : (k l : List Access) → appended (appended log k) l ≡ appended log (k ++ l)
-  unfolding appended
+  pub appended_then : (k l : List Access) → with_entries (with_entries log k) l ≡ with_entries log (k ++ l)
+  unfolding with_entries
   appended_then k l = rw (noted_append log.entries log.used k l, length-append k l, add_assoc) refl
 
   -- the used count goes on, the list keeps its length, and the free entries are those that are left
-  pub log_used : (l : List Access) → (appended log l).used ≡ log.used + length l
-  unfolding appended
+  pub log_used : (l : List Access) → (with_entries log l).used ≡ log.used + length l
+  unfolding with_entries
   log_used l = refl
 
-  pub appended_length : (l : List Access) → length (appended log l).entries ≡ length log.entries
-  unfolding appended
+  pub appended_length : (l : List Access) → length (with_entries log l).entries ≡ length log.entries
+  unfolding with_entries
   appended_length l = noted_length log.entries log.used l
 
-  pub appended_free : (l : List Access) → Some (free_of (appended log l)) ≡ free_after (Some (free_of log)) l
+  pub appended_free : (l : List Access) → Some (free_of (with_entries log l)) ≡ free_after (Some (free_of log)) l
   appended_free l = ap Some (omega (arith, appended_length l, log_used l))
 
 -- the same of a log that may be lent
@@ -56,9 +56,9 @@ pub logged_none : {log : BusLog} → Logged [] log log
 logged_none {log} = record { log = sym (appended_none (held_log log)); lent = refl }
 
 pub logged_by : {l : List Access} (log : Both (MutBor BusLog) (MutBor BusLog)) → Appends l log → Logged l log.entry.now log.exit.now
-unfolding appended
+unfolding with_entries
 logged_by log a = record { log = rw (a.entries, a.used) refl; lent = a.lent }
 
 pub logged_then : {k l : List Access} {before now after : BusLog} → Logged k before now → Logged l now after → Logged (k ++ l) before after
 logged_then {k} {l} {before} a b =
-    record { log = b.log ∙ ap (λ x. appended x l) a.log ∙ appended_then (held_log before) k l; lent = b.lent ∙ a.lent }
+    record { log = b.log ∙ ap (λ x. with_entries x l) a.log ∙ appended_then (held_log before) k l; lent = b.lent ∙ a.lent }

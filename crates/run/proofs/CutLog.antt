@@ -10,7 +10,7 @@ use Rattle.bus.specs.Log.{entry_of}
 use Rattle.bus.proofs.Notes.{noted_fits}
 use Rattle.run.specs.declared.Settings.{Settings}
 use Rattle.run.specs.Acceptance.{Accepted}
-use Rattle.run.specs.BusLog.{Log, free_in, free_after, appended, lent_if, appended_if, Full}
+use Rattle.run.specs.BusLog.{Log, free_in, free_after, with_entries, lent_if, appended_if, Full}
 use Rattle.run.specs.Run.{CallResult, no_step, completed, one_step, run_of, call_of, settings}
 use Rattle.run.specs.Demand.{sum, AtLeastOne}
 use Rattle.run.specs.CutLog.{left_after, log_after, log_after_all, CutLog}
@@ -65,17 +65,17 @@ module _ (s : Settings) (log : Log) (m : Lh5801) (p : Pages) where
       (λ h. run_fits s.limit s.inputs (free_in (Some log)) m p _ refl)
 
   pub call_entries : log.used ≤ length log.entries
-      → ((appended log bus).entries ≡ take log.used log.entries ++ map entry_of bus ++ drop (log.used + length bus) log.entries)
-      × ((appended log bus).used ≡ log.used + length bus)
-      × ((appended log bus).used ≤ length log.entries)
-  unfolding appended
+      → ((with_entries log bus).entries ≡ take log.used log.entries ++ map entry_of bus ++ drop (log.used + length bus) log.entries)
+      × ((with_entries log bus).used ≡ log.used + length bus)
+      × ((with_entries log bus).used ≤ length log.entries)
+  unfolding with_entries
   call_entries h = (
     noted_fits log.entries log.used bus (omega (arith, call_fits)),
     log_used log bus,
     omega (arith, call_fits),
   )
 
-  pub call_beyond : length log.entries < log.used → appended log bus ≡ log
+  pub call_beyond : length log.entries < log.used → with_entries log bus ≡ log
   call_beyond h =
       let z : bus ≡ [] = none_there bus (omega (arith, call_fits)) in
       rw z (appended_none log)

@@ -6,7 +6,7 @@ use Rattle.pages.specs.Pages.{Pages}
 use Rattle.pages.specs.Prog.{Access}
 use Rattle.bus.specs.declared.BusLog.{BusLog}
 use Rattle.run.specs.declared.Answer.{Answer}
-use Rattle.run.specs.BusLog.{Log, held_log, free_in, appended}
+use Rattle.run.specs.BusLog.{Log, held_log, free_in, with_entries}
 use Rattle.run.specs.Run.{CallResult}
 
 pub record Answers (o : CallResult) (r : Answer) (after : Pages) : Type 0 where
@@ -15,7 +15,7 @@ pub record Answers (o : CallResult) (r : Answer) (after : Pages) : Type 0 where
 
 -- a log to which these accesses were appended, and nothing else changed: its list is the same one
 pub record Logged (l : List Access) (before after : BusLog) : Type 0 where
-  pub log : held_log after ≡ appended (held_log before) l
+  pub log : held_log after ≡ with_entries (held_log before) l
   pub lent : after.entries.ghost_name ≡ before.entries.ghost_name
 
 -- a log that may be lent to a call: at entry, and as it is left at exit

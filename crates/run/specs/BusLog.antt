@@ -35,15 +35,15 @@ free_after None l = None
 free_after (Some free) l = Some (free - length l)
 
 -- a log after these accesses: "Each access of a completed step is appended in order", from the used count on
-unfoldable pub appended : Log → List Access → Log
-appended log l = log_of (noted log.entries log.used l) (log.used + length l)
+unfoldable pub with_entries : Log → List Access → Log
+with_entries log l = log_of (noted log.entries log.used l) (log.used + length l)
 
 -- a log that is lent or not, by a flag: where it is not, there is none, and it stays as it is
 abbrev pub lent_if : Bool → Log → Option Log
 lent_if lent log = cond lent (Some log) None
 
 abbrev pub appended_if : Bool → Log → List Access → Log
-appended_if lent log l = cond lent (appended log l) log
+appended_if lent log l = cond lent (with_entries log l) log
 
 -- 11's condition: there is a log, and it is full; and that there is none, or that it is not full
 abbrev pub Full : Option ℕ → Type 0

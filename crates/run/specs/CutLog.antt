@@ -6,14 +6,14 @@ use Rattle.pages.specs.Pages.{Pages}
 use Rattle.pages.specs.Prog.{Access}
 use Rattle.run.specs.declared.Settings.{Settings}
 use Rattle.run.specs.Acceptance.{Accepted}
-use Rattle.run.specs.BusLog.{Log, free_in, appended}
+use Rattle.run.specs.BusLog.{Log, free_in, with_entries}
 use Rattle.run.specs.Run.{call_of, settings}
 use Rattle.run.specs.Demand.{sum, AtLeastOne}
 
 -- a log that may be lent, after accesses
 abbrev pub left_after : Option Log → List Access → Option Log
 left_after None l = None
-left_after (Some log) l = Some (appended log l)
+left_after (Some log) l = Some (with_entries log l)
 
 -- the list and the count that a call leaves, if a log is lent
 unfoldable pub log_after : Settings → Option Log → Lh5801 → Pages → Option Log

@@ -21,7 +21,7 @@ returns-else-k c =
     let states = c.add_state.ensures in
     let timed = c.timer_part-k.ensures in (
       instruction_listed _ _ ready (does_gives c.view.ensures c.fetch-opcode.ensures) listed executed states timed settled c.if-k.false,
-      again _ _ _ _ _ settled ready executed states timed c.if-k.false,
+      again _ _ _ _ _ _ settled ready executed.value states timed c.if-k.false,
     )
 
 pub returns-else-settled : goal.returns-else-settled

@@ -16,6 +16,7 @@
 
 ghost use Rattle.std.specs.Prelude.{◌≡◌, ℕ, ◌+◌, ◌^◌, ◌<◌, ◌≤◌, List, None, Some, length, take, IfOk, IfSome, MatchOption, slice_set};
 ghost use Rattle.std.specs.List.{AllZip};
+ghost use Rattle.run.specs.BusLog.{held_log};
 ghost use Rattle.replay.specs.Numbers.{with_number, sums_of, sums_after_of, both_of, next_byte_of};
 ghost use Rattle.replay.specs.Bytes.{fill_of, copy_page_of, patch_of, filled_page_of};
 ghost use Rattle.replay.specs.Calls.{contents, refusal_differs_of, log_in, call_differs_of, differs_of, taken, number, item_in, replay_of, Replayed};
@@ -182,14 +183,14 @@ fn log_of(used: u16) -> Option<usize>
 
 // The sums over what a call leaves: the starts of both pages, all entries of the list, and the used count.
 #[tactic(auto, unfolding(crate::specs::Numbers::sums_after_of))]
-fn sums_after(page0: &[u8], page1: &[u8], entries: &[u32], used: usize) -> Sums
-    ensures { result ≡ sums_after_of page0.now page1.now entries.now used }
+fn sums_after(page0: &[u8], page1: &[u8], log: &BusLog) -> Sums
+    ensures { result ≡ sums_after_of page0.now page1.now (held_log log.now).entries (held_log log.now).used }
 {
     Sums::default()
         .over(page0)
         .over(page1)
-        .over(entries)
-        .with_number(used as u64)
+        .over(log.entries)
+        .with_number(log.used as u64)
 }
 
 // Is the line of a file that was turned down another one?
@@ -230,9 +231,8 @@ impl Item<'_> {
             None => run::run(c.cpu, page0, page1, None, settings),
             Some(_) => run::run(c.cpu, page0, page1, Some(&mut log), settings),
         };
-        let used = log.used;
         let n = report::answer_line(&mut out, answer);
-        let sums = sums_after(page0, page1, &entries, used);
+        let sums = sums_after(page0, page1, &log);
         (&out[..n] != self.want) | (sums != self.want_sums)
     }
 

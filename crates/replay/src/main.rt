@@ -4,8 +4,9 @@
 //! come 3,017 calls with the original's answers, where stops 1 to 4, 7 and 11 are the oracle's own: the 923 directed calls of `oracle list` without a log
 //! and 1,500 random ones, every third of which has a log; then directed calls with a log: 187 short runs with used counts up to, at and beyond the list's
 //! end, each listed opcode once, and 91 of the directed calls again, which are not of an opcode each and take less than a million steps. In all 1,094 calls
-//! have a log, and 230 end with 11, 123 of them after completed steps. Then come 121 files that are turned down with 8, 9 or 10: document 01's example cut at every place, with bytes left over,
-//! with each field too great or too long, and with random bytes changed; their lines are the oracle's own reading, for the original has none.
+//! have a log, and 230 end with 11, 123 of them after completed steps. Then come 121 files that are turned down with 8, 9 or 10: document 01's example cut
+//! at every place, with bytes left over, with each field too great or too long, and with random bytes changed; their lines are the oracle's own reading,
+//! for the original has none.
 //! An item, its numbers lowest byte first: the campaign file's length (2 bytes), the two pages' lengths (4 each), the line's length (1), the fill
 //! rule's first byte and step (1 each), how many bytes are set after it (1), the log's used count, or 65,535 where no log is lent (2); the campaign file;
 //! document 01's line; for each byte that is set its offset (2), page (1) and value (1); the two sums over what the call leaves (8 each): both pages, then
@@ -262,7 +263,7 @@ impl<'a> Items<'a> {
     #[tactic(auto, unfolding(crate::specs::Calls::taken))]
     fn read_bytes(&mut self, len: usize) -> Option<&'a [u8]>
         ensures taken { MatchOption result (taken len self.old.left.now ≡ None) (λ part. taken len self.old.left.now ≡ Some (part.now, self.new.left.now)) }
-        ensures len { IfSome result (λ part. length self.new.left.now + len ≡ length self.old.left.now) }
+        ensures len { IfSome result (λ _. length self.new.left.now + len ≡ length self.old.left.now) }
     {
         let (part, left) = self.left.split_at_checked(len)?;
         self.left = left;

@@ -1,11 +1,7 @@
 -- Laws of bytes.
-use Rattle.std.proofs.Common.{◌≡◌, ℕ, ◌*◌, ◌/◌, ◌%◌, ◌^◌, ◌<◌, ◌≤◌, Bool, true, false, T, eqb, leb, arith, eqb→eq}
+use Rattle.std.proofs.Common.{◌≡◌, ℕ, ◌*◌, ◌/◌, ◌^◌, ◌<◌, ◌≤◌, Bool, true, false, T, eqb, leb, arith, eqb→eq}
 use Rattle.arithmetic.specs.Flags.{bit_of}
 use Rattle.arithmetic.proofs.Compute.{every, test_at}
-
--- a byte, cut to a byte
-pub byte_cut : {b : ℕ} → b < 256 → b ≡ b % 256
-byte_cut h = omega arith
 
 -- a number below twice a power of two has at most one of it, and that is a flag
 overs : T (every (λ i. every (λ n. eqb (n / 2 ^ i) (bit_of (leb (2 ^ i) n))) 0 (2 * 2 ^ i)) 0 9)

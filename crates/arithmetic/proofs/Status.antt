@@ -265,19 +265,6 @@ module _ (m : Lh5801) where
   unfolding with_p
   p_keeps v = (refl, refl)
 
-  -- all three pairs set, two of them to what they were
-  pub only_x : (w : ℕ) → with_u (with_y (with_x m w) m.y) m.u ≡ with_x m w
-  unfolding with_x with_y with_u
-  only_x w = refl
-
-  pub only_y : (w : ℕ) → with_u (with_y (with_x m m.x) w) m.u ≡ with_y m w
-  unfolding with_x with_y with_u
-  only_y w = refl
-
-  pub only_u : (w : ℕ) → with_u (with_y (with_x m m.x) m.y) w ≡ with_u m w
-  unfolding with_x with_y with_u
-  only_u w = refl
-
 pub times_status : (m k : Lh5801) → status_of k ≡ status_of m → SameTimes m k
 times_status m k e = record { tm = ap (λ (s : Status). s.tm) e; ticks = ap (λ (s : Status). s.ticks) e }
 

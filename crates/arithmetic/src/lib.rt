@@ -12,7 +12,7 @@ use crate::record::Lh5801;
 
 pub mod record;
 
-/// Masks and no enum: get_flag and set_flag take any mask.
+/// The flags of T as masks, and no enum: get_flag and set_flag take any mask.
 pub const CF: u8 = 0x01;
 
 pub const IE: u8 = 0x02;

@@ -44,7 +44,7 @@ pub struct Lh5801 {
 }
 
 impl Lh5801 {
-    /// A parameter cannot name a field, so each has a setter of its own.
+    // A parameter cannot name a field, so each has a setter of its own.
     pub fn with_a(self, v: u8) -> Self
         ensures { result ≡ with_a self v }
     {

@@ -46,10 +46,6 @@ reached_stays : (m : Lh5801) → m.is_timer_reached ≡ false → reached_of m �
 unfolding reached_of
 reached_stays m e = cond_false _ _ _ e
 
--- timer reached moving to IR1 keeps TM
-pub reached_tm : (m : Lh5801) → (reached_of m).tm ≡ m.tm
-reached_tm m = reached_same m (λ k. k.tm) (ap (λ (s : Status). s.tm) (requested m true false).is)
-
 -- timer reached moving to IR1 does not change the test
 test_moved : (bf ir0 ir1 ir2 e h : Bool) → due_by bf ir0 true false ir2 e h ≡ due_by bf ir0 ir1 true ir2 e h
 test_moved bf ir0 true ir2 e h = refl

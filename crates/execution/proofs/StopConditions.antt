@@ -159,18 +159,18 @@ module _ (m : Lh5801) (inputs : Inputs) (pages : Pages) where
   completed_did = active_did answer
 
   -- the condition of each stop
-  abbrev Stops : Stop → Type 0
-  Stops Halted = HaltedStop inputs m
-  Stops (Unlisted (First b)) = FirstUnlisted m pages b
-  Stops (Unlisted (AfterFd b)) = SecondUnlisted m pages b
+  abbrev ConditionOf : Stop → Type 0
+  ConditionOf Halted = HaltedStop inputs m
+  ConditionOf (Unlisted (First b)) = FirstUnlisted m pages b
+  ConditionOf (Unlisted (AfterFd b)) = SecondUnlisted m pages b
 
-  stops : (s : Stop) → answer ≡ stopped s → Stops s
-  stops s e = go case_of
+  condition_holds : (s : Stop) → answer ≡ stopped s → ConditionOf s
+  condition_holds s e = go case_of
     where
-      same : {t : Stop} → answer ≡ stopped t → Stops t → Stops s
-      same {t} a h = let z : t ≡ s = cc (a, e) in subst Stops z h
+      same : {t : Stop} → answer ≡ stopped t → ConditionOf t → ConditionOf s
+      same {t} a h = let z : t ≡ s = cc (a, e) in subst ConditionOf z h
 
-      go : Case → Stops s
+      go : Case → ConditionOf s
       go (is_halted_lem h) = same (halted_answer h) h
       go (is_waiting w) = absurd (never_both s (waiting_did w) e)
       go (is_first b f) = same (first_answer b f) f
@@ -180,17 +180,17 @@ module _ (m : Lh5801) (inputs : Inputs) (pages : Pages) where
   -- 7
   pub stops_7 : ((exec (step_of m inputs) pages).answer ≡ stopped Halted) ↔ HaltedStop inputs m
   unfolding answer
-  stops_7 = (stops Halted, halted_answer)
+  stops_7 = (condition_holds Halted, halted_answer)
 
   -- 5, with the byte
   pub stops_5 : (b : ℕ) → ((exec (step_of m inputs) pages).answer ≡ stopped (Unlisted (First b))) ↔ FirstUnlisted m pages b
   unfolding answer
-  stops_5 b = (stops (Unlisted (First b)), first_answer b)
+  stops_5 b = (condition_holds (Unlisted (First b)), first_answer b)
 
   -- 6, with the byte
   pub stops_6 : (b : ℕ) → ((exec (step_of m inputs) pages).answer ≡ stopped (Unlisted (AfterFd b))) ↔ SecondUnlisted m pages b
   unfolding answer
-  stops_6 b = (stops (Unlisted (AfterFd b)), second_answer b)
+  stops_6 b = (condition_holds (Unlisted (AfterFd b)), second_answer b)
 
   completes_did : (e : StepEnd) → IsDid e → Completes e
   completes_did (did k n kind) h = record { after = k; states = n; kind = kind; is = refl }

@@ -1,15 +1,11 @@
 -- The law of a register of 16 bits that wraps downwards, and what the stack keeps of the record.
-use Rattle.std.proofs.Common.{◌≡◌, ℕ, ◌+◌, ◌%◌, ◌^◌, ◌<◌, false, ◌∙◌, arith}
+use Rattle.std.proofs.Common.{◌≡◌, ℕ, false, ◌∙◌}
 use Rattle.arithmetic.specs.declared.record.Lh5801.{Lh5801}
 use Rattle.arithmetic.specs.Record.{with_t, with_s}
 use Rattle.arithmetic.proofs.Status.{status_of, SameTimes, keeps_s, keeps_p, keeps_lda, times_t, times_halted, times_status, times_then}
 use Rattle.pages.specs.Prog.{◌>>=◌, read, write}
-use Rattle.pages.specs.Stack.{down16, mem16_of, push_of, push_word_of, pop_of, push_state_of, accept_of}
+use Rattle.pages.specs.Stack.{mem16_of, push_of, push_word_of, pop_of, push_state_of, accept_of}
 use Rattle.pages.proofs.Always.{Always}
-
--- one less, wrapping, is the one number of 16 bits that gives the number back when 1 is added
-pub down_only : {r n : ℕ} → r < 0x10000 → (r + 1) % 2 ^ 16 ≡ n → r ≡ down16 n
-down_only h e = omega arith
 
 module _ (m : Lh5801) where
   -- pushes and pops keep the status

@@ -29,9 +29,6 @@ LentMemory = Both (MutBor Memory) (MutBor Memory)
 abbrev pub at_entry : LentMemory → Pages
 at_entry memory = held memory.entry.now
 
-abbrev pub at_exit : LentMemory → Pages
-at_exit memory = held memory.exit.now
-
 -- from the memory at entry, p gives r and leaves the memory at exit
 abbrev pub Changes : {A : Type 0} → Prog A → LentMemory → A → Type 0
 Changes p memory r = Does p memory.entry.now r memory.exit.now

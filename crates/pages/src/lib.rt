@@ -44,11 +44,11 @@ fn byte_at(page: &[u8], at: usize) -> u8
     page.get(at).copied().unwrap_or(255)
 }
 
-/// Puts a value at a place of a list; past the end it is dropped. No `get_mut`: its contract says nothing of the list after the write, and the
-/// proof stays open.
+/// Puts a value at a place of a list; past the end it is dropped.
 pub fn put_at<T: Copy>(list: &mut [T], at: usize, v: T)
     ensures { list.new ≡ slice_set list.old at v }
 {
+    // No `get_mut`: its contract says nothing of the list after the write.
     if at < list.len() {
         list[at] = v;
     }
@@ -68,7 +68,8 @@ pub fn word(high: u8, low: u8) -> u16
 }
 
 impl View<'_> {
-    /// `as` here and below: no From gives a usize of a u32.
+    /// The byte at an address of 17 bits: page 0, or from 65,536 on page 1.
+    // `as` here and below: no From gives a usize of a u32.
     #[tactic(auto, using(crate::proofs::Does::gives_read0, crate::proofs::Does::gives_read1))]
     pub fn read_byte(self, addr: u32) -> u8
         ensures { Reads (read addr) self result }

@@ -5,7 +5,7 @@ use Rattle.std.specs.Int.{from_bool}
 use Rattle.replay.specs.declared.Item.{Item}
 use Rattle.replay.specs.declared.Items.{Items}
 use Rattle.replay.specs.declared.Tally.{Tally}
-use Rattle.replay.specs.Calls.{contents, differs_of, item_in, with_call, with_item, replay_from, replay_of, GivesItem}
+use Rattle.replay.specs.Calls.{item_value, differs_of, item_in, with_call, with_item, replay_from, replay_of, GivesItem}
 
 -- a call that differs counts as 1
 pub from_bool_small : (b : Bool) → from_bool b ≤ 1
@@ -45,7 +45,7 @@ module _ {bytes left : List ℕ} {tally : Tally} (c : Counted bytes left tally) 
 -- does the item's call differ? One that is cut off does
 abbrev pub item_differs : Option Item → Bool
 item_differs None = true
-item_differs (Some item) = differs_of (contents item)
+item_differs (Some item) = differs_of (item_value item)
 
 -- the next item is counted, and what is left is shorter
 pub item_counted : {bytes : List ℕ} {tally : Tally} (old : Items) (item : Option Item) (new : Items) → Counted bytes old.left.now tally → GivesItem old (Some item) new

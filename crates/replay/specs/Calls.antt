@@ -19,7 +19,7 @@ use Rattle.replay.specs.Numbers.{number_at, sums_after_of, same_sums}
 use Rattle.replay.specs.Bytes.{patch_of, filled_page_of, bytes_differ}
 
 -- what an item says, by value: a campaign file, what is lent to its call, the bytes that are set, and the line and the sums that are wanted
-pub record Contents : Type 0 where
+pub record ItemValue : Type 0 where
   pub file : List ℕ
   pub lent : Lent
   pub sets : List ℕ
@@ -27,8 +27,8 @@ pub record Contents : Type 0 where
   pub want_sums : Sums
 
 -- what an item of the program says: its slices are parts of the list
-abbrev pub contents : Item → Contents
-contents item = record { file = item.file.now; lent = item.lent; sets = item.sets.now; want = item.want.now; want_sums = item.want_sums }
+abbrev pub item_value : Item → ItemValue
+item_value item = record { file = item.file.now; lent = item.lent; sets = item.sets.now; want = item.want.now; want_sums = item.want_sums }
 
 -- a file that was turned down: is its line not the wanted one?
 unfoldable pub refusal_differs_of : Refusal → List ℕ → Bool
@@ -57,7 +57,7 @@ log_left None l = log_of unused 0
 log_left (Some used) l = with_entries (log_of unused used) l
 
 -- the call of an item's file, which was read, on the pages and with the log that the item lends
-unfoldable pub call_result_of : Contents → Parsed → CallResult
+unfoldable pub call_result_of : ItemValue → Parsed → CallResult
 call_result_of item c =
     run_parts_of (settings_in c.asked) (free_in (lent_log item.lent.log)) c.cpu
     (patch_of (filled_page_of blank item.lent.len0 item.lent.rule item.file c.page0) 0 item.sets) item.lent.len0
@@ -71,16 +71,16 @@ result_sums log o = sums_after_of o.pages.page0 o.pages.page1 (log_left log o.bu
 abbrev pub result_differs : Option ℕ → CallResult → List ℕ → Sums → Bool
 result_differs log o want want_sums = bytes_differ (answer_line o.answer) want || not (same_sums (result_sums log o) want_sums)
 
-unfoldable pub call_differs_of : Contents → Parsed → Bool
+unfoldable pub call_differs_of : ItemValue → Parsed → Bool
 call_differs_of item c = result_differs item.lent.log (call_result_of item c) item.want item.want_sums
 
 -- a file that is read is one call; a file that is turned down has a line only
-abbrev pub file_differs : Field Parsed → Contents → Bool
+abbrev pub file_differs : Field Parsed → ItemValue → Bool
 file_differs (read c next) item = call_differs_of item c
 file_differs (refused stop) item = refusal_differs_of stop item.want
 
 -- one call of the list; one whose pages are longer than 65,537 bytes differs
-unfoldable pub differs_of : Contents → Bool
+unfoldable pub differs_of : ItemValue → Bool
 differs_of item =
     cond (nat_lt 65537 item.lent.len0) true (cond (nat_lt 65537 item.lent.len1) true (file_differs (campaign_of item.file 0) item))
 
@@ -110,7 +110,7 @@ number len = do
   given (number_at len bytes 0)
 
 -- an item: its numbers, its campaign file, its line, the bytes that are set, four for each, and the two sums
-unfoldable pub item_in : Reader Contents
+unfoldable pub item_in : Reader ItemValue
 item_in = do
   file_len ← number 2
   len0 ← number 4
@@ -134,14 +134,14 @@ item_in = do
 abbrev pub GivesItem : Items → Option (Option Item) → Items → Type 0
 GivesItem old None new = length old.left.now ≡ 0
 GivesItem old (Some None) new = (item_in old.left.now ≡ None) × (0 < length old.left.now) × (length new.left.now ≡ 0)
-GivesItem old (Some (Some item)) new = (item_in old.left.now ≡ Some (contents item, new.left.now)) × (length new.left.now < length old.left.now)
+GivesItem old (Some (Some item)) new = (item_in old.left.now ≡ Some (item_value item, new.left.now)) × (length new.left.now < length old.left.now)
 
 -- one call more, and one more that differs where it does
 abbrev pub with_call : Tally → Bool → Tally
 with_call tally differs = record { calls = tally.calls + 1; differ = tally.differ + from_bool differs }
 
 -- an item is counted, and then those after it. An item that is cut off counts as a call that differs, and ends the list
-abbrev pub with_item : Tally → Option (Contents × List ℕ) → (List ℕ → Tally → Tally) → Tally
+abbrev pub with_item : Tally → Option (ItemValue × List ℕ) → (List ℕ → Tally → Tally) → Tally
 with_item tally None rest = with_call tally true
 with_item tally (Some found) rest = rest found.1 (with_call tally (differs_of found.0))
 

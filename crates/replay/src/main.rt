@@ -20,7 +20,7 @@ ghost use Rattle.std.specs.List.{AllZip};
 ghost use Rattle.run.specs.BusLog.{held_log};
 ghost use Rattle.replay.specs.Numbers.{with_number, sums_of, sums_after_of, both_of, next_byte_of};
 ghost use Rattle.replay.specs.Bytes.{fill_of, copy_page_of, patch_of, filled_page_of};
-ghost use Rattle.replay.specs.Calls.{contents, refusal_differs_of, log_in, call_differs_of, differs_of, taken, number, item_in, replay_of, Replayed};
+ghost use Rattle.replay.specs.Calls.{item_value, refusal_differs_of, log_in, call_differs_of, differs_of, taken, number, item_in, replay_of, Replayed};
 
 use bus::BusLog;
 use run::campaign_file::{PagePlace, Parsed, Refusal};
@@ -210,7 +210,7 @@ impl Item<'_> {
     #[tactic(auto, unfolding(crate::specs::Calls::call_differs_of, crate::specs::Calls::call_result_of))]
     fn call_differs(&self, c: Parsed) -> bool
         requires { (self.now.lent.len0 ≤ 65537) × (self.now.lent.len1 ≤ 65537) }
-        ensures { result ≡ call_differs_of (contents self.now) c }
+        ensures { result ≡ call_differs_of (item_value self.now) c }
     {
         let lent = self.lent;
         let mut page0 = [0u8; 65537];
@@ -241,7 +241,7 @@ impl Item<'_> {
     // first, clang 22.1.8 makes it behind them, and the loop that does so overwrites r11, where it keeps a length.
     #[tactic(auto, unfolding(crate::specs::Calls::differs_of))]
     fn differs(&self) -> bool
-        ensures { result ≡ differs_of (contents self.now) }
+        ensures { result ≡ differs_of (item_value self.now) }
     {
         let read = campaign_file::read_campaign(self.file);
         if 65537 < self.lent.len0 {
@@ -284,7 +284,7 @@ impl<'a> Items<'a> {
     // The first item. `as`: of a number of four bytes usize has all.
     #[tactic(auto, unfolding(crate::specs::Calls::item_in, crate::specs::Calls::number, crate::specs::Numbers::number_at))]
     fn item(&mut self) -> Option<Item<'a>>
-        ensures item { MatchOption result (item_in self.old.left.now ≡ None) (λ item. item_in self.old.left.now ≡ Some (contents item, self.new.left.now)) }
+        ensures item { MatchOption result (item_in self.old.left.now ≡ None) (λ item. item_in self.old.left.now ≡ Some (item_value item, self.new.left.now)) }
         ensures shorter { IfSome result (λ _. length self.new.left.now + 32 ≤ length self.old.left.now) }
     {
         let file_len = u16::from_le_bytes(self.read_array()?);

@@ -3,7 +3,7 @@
 ghost use Rattle.std.specs.Prelude.{◌≡◌, length};
 ghost use Rattle.run.specs.RecordNumbers.{AllWithin};
 ghost use Rattle.run.specs.CampaignFile.{refusal_number, refusal_offset, number_of, greatest_values, numbers_of, page_of, parsed_of, campaign_of};
-ghost use Rattle.run.specs.Code.FileAnswers.{field_of, Reads};
+ghost use Rattle.run.specs.Code.FileAnswers.{field_of, ReadsField};
 
 use crate::record_numbers;
 use arithmetic::record::Lh5801;
@@ -93,7 +93,7 @@ impl Cursor<'_> {
     /// One number: groups of seven bits, the lowest first, the top bit set on all but the last. It has to be written in the shortest way and
     /// to be at most its field's greatest value.
     pub fn number(&mut self, greatest: u64) -> Result<u64, Refusal>
-        ensures { Reads (number_of greatest) self result }
+        ensures { ReadsField (number_of greatest) self result }
     {
         let begin = self.at;
         let Some(rest) = self.bytes.get(begin..) else {
@@ -123,7 +123,7 @@ impl Cursor<'_> {
 
     /// The fourteen numbers, one after another: each takes the place of its field's greatest value.
     pub fn numbers(&mut self) -> Result<[u64; 14], Refusal>
-        ensures { Reads (numbers_of greatest_values) self result }
+        ensures { ReadsField (numbers_of greatest_values) self result }
     {
         let mut values = GREATEST;
         for value in values.iter_mut() {
@@ -135,7 +135,7 @@ impl Cursor<'_> {
     /// A page's length, then so many bytes.
     #[tactic(auto, using(crate::proofs::CampaignFile::Number::number_within), unfolding(crate::specs::CampaignFile::page_of, crate::specs::CampaignFile::bytes_of))]
     pub fn page(&mut self) -> Result<PagePlace, Refusal>
-        ensures { Reads page_of self result }
+        ensures { ReadsField page_of self result }
     {
         let len = self.number(16384)? as usize;
         let at = self.at;

@@ -6,6 +6,6 @@ use Rattle.lh5801.proofs.words_of.Goals as goal
 pub returns : goal.returns
 returns c =
     let cpu = c.from_record.ensures in (
-      rw (c.copy_from_slice-2.ensures.after, c.copy_from_slice.ensures.after, cpu.0, c.from.ensures, c.number.ensures, c.from-2.ensures, c.byte.ensures, c.from-3.ensures),
+      rw (c.copy_from_slice-2.ensures.after, c.copy_from_slice.ensures.after, cpu.0, c.from.ensures, c.from-2.ensures, c.from-3.ensures, c.number.ensures, c.byte.ensures),
       words_within c.args.r cpu.1 (omega (arith, c.byte.ensures)) (omega arith) (omega arith),
     )

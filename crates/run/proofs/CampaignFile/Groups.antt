@@ -86,18 +86,18 @@ module _ {before now : Cursor} {rest : List ℕ} {count weight value : ℕ} (p :
         let low : byte % 128 ≡ byte = omega arith in
         rw (low, ← p.rest_is, p.groups_are, there, lt-leb 128 byte g, place, first_only count)
 
-    pub number_read : (greatest : ℕ) → byte < 128 → (eqb count 0 || not (eqb byte 0)) ≡ true → value + weight * (byte % 128) ≤ greatest
+    pub passed_read : (greatest : ℕ) → byte < 128 → (eqb count 0 || not (eqb byte 0)) ≡ true → value + weight * (byte % 128) ≤ greatest
         → ReadOn (number_of greatest) before (record { bytes = now.bytes; at = before.at + count + 1 }) (Ok (value + weight * (byte % 128)))
-    number_read greatest g s f = record {
+    passed_read greatest g s f = record {
       field = last_is greatest g ∙ rw (s, le-leb (value + weight * (byte % 128)) greatest f);
       file = ap (λ (c : Cursor). c.bytes) p.stays;
     }
 
-    pub number_unfit : (greatest : ℕ) → byte < 128
+    pub passed_unfit : (greatest : ℕ) → byte < 128
         → (((eqb count 0 || not (eqb byte 0)) ≡ true) × (greatest < value + weight * (byte % 128))) ⊎ ((eqb count 0 || not (eqb byte 0)) ≡ false)
         → ReadOn (number_of greatest) before now (Err (Unfit before.at))
-    number_unfit greatest g (inl (s, f)) = turned_down greatest (last_is greatest g ∙ rw (s, lt-leb (value + weight * (byte % 128)) greatest f))
-    number_unfit greatest g (inr s) = turned_down greatest (last_is greatest g ∙ rw s)
+    passed_unfit greatest g (inl (s, f)) = turned_down greatest (last_is greatest g ∙ rw (s, lt-leb (value + weight * (byte % 128)) greatest f))
+    passed_unfit greatest g (inr s) = turned_down greatest (last_is greatest g ∙ rw s)
 
     pub tenth_unfit : (greatest : ℕ) → (eqb count 9 && not (eqb byte 1)) ≡ true → greatest < 2 ^ 64 → ReadOn (number_of greatest) before now (Err (Unfit before.at))
     unfolding number_of
@@ -115,12 +115,12 @@ module _ {before now : Cursor} {rest : List ℕ} {count weight value : ℕ} (p :
         last g = ⊎_elim zero above (lt_or_ge byte 2)
           where
             zero : byte < 2 → ReadOn (number_of greatest) before now (Err (Unfit before.at))
-            zero z = number_unfit greatest g (inr (grind (arith, nat_tests)))
+            zero z = passed_unfit greatest g (inr (grind (arith, nat_tests)))
 
             above : 2 ≤ byte → ReadOn (number_of greatest) before now (Err (Unfit before.at))
             above z =
                 let two : 2 ≤ byte % 128 = omega arith in
-                number_unfit greatest g (inl (grind (arith, nat_tests), omega (arith, tenth_weighs nine, mul-le-mul_left weight two)))
+                passed_unfit greatest g (inl (grind (arith, nat_tests), omega (arith, tenth_weighs nine, mul-le-mul_left weight two)))
 
     -- where it is not the tenth, or is 1
     module _ (test : (eqb count 9 && not (eqb byte 1)) ≡ false) where

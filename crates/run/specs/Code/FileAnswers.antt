@@ -17,5 +17,5 @@ pub record ReadOn {A : Type 0} (reader : Reader A) (before after : Cursor) (answ
   pub file : after.bytes ≡ before.bytes
 
 -- the same of a cursor that a function gets lent
-abbrev pub Reads : {A : Type 0} → Reader A → Both (MutBor Cursor) (MutBor Cursor) → Result A Refusal → Type 0
-Reads reader cursor answer = ReadOn reader cursor.entry.now cursor.exit.now answer
+abbrev pub ReadsField : {A : Type 0} → Reader A → Both (MutBor Cursor) (MutBor Cursor) → Result A Refusal → Type 0
+ReadsField reader cursor answer = ReadOn reader cursor.entry.now cursor.exit.now answer

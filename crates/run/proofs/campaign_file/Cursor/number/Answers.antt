@@ -1,6 +1,6 @@
 use Rattle.std.proofs.Common.{◌<◌, length, arith, rules, drop_of_length-le}
 use Rattle.run.specs.CampaignFile.{number_of}
-use Rattle.run.proofs.CampaignFile.Groups.{passed_more, passed_fits, weight_fits, number_ends, number_read, number_unfit, tenth_unfit}
+use Rattle.run.proofs.CampaignFile.Groups.{passed_more, passed_fits, weight_fits, number_ends, passed_read, passed_unfit, tenth_unfit}
 use Rattle.run.proofs.campaign_file.Cursor.number.Goals as goal
 
 pub returns-in_default : goal.returns-in_default
@@ -19,10 +19,10 @@ pub overflow_add-value : goal.overflow_add-value
 overflow_add-value c = omega (arith, passed_fits c.loop-count.invariant c.loop-count-test.true c.from-group.ensures c.if-count-group.false)
 
 pub returns-then-value-greatest : goal.returns-then-value-greatest
-returns-then-value-greatest c = number_read c.loop-count.invariant c.loop-count-test.true c.from-group.ensures _ c.if-group-lt128.true c.if-shortest.true c.if-value-greatest.true
+returns-then-value-greatest c = passed_read c.loop-count.invariant c.loop-count-test.true c.from-group.ensures _ c.if-group-lt128.true c.if-shortest.true c.if-value-greatest.true
 
 pub returns-then-group-lt128 : goal.returns-then-group-lt128
-returns-then-group-lt128 c = number_unfit c.loop-count.invariant c.loop-count-test.true c.from-group.ensures _ c.if-group-lt128.true c.else-shortest.either
+returns-then-group-lt128 c = passed_unfit c.loop-count.invariant c.loop-count-test.true c.from-group.ensures _ c.if-group-lt128.true c.else-shortest.either
 
 pub overflow_mul-weight : goal.overflow_mul-weight
 overflow_mul-weight c = omega (arith, weight_fits c.loop-count.invariant c.loop-count-test.true c.from-group.ensures c.if-count-group.false c.if-group-lt128.false)

@@ -75,12 +75,7 @@ pub extern "C" fn lh5801_call(
         entries: log,
         used: log_used,
     };
-    // The call stands twice: the proof does not follow a borrow that a condition puts into an Option.
-    let answer = if logged {
-        run::run(cpu, page0, page1, Some(&mut lent), settings)
-    } else {
-        run::run(cpu, page0, page1, None, settings)
-    };
+    let answer = run::run(cpu, page0, page1, logged, &mut lent, settings);
     *words = words_of(answer);
     lent.used
 }

@@ -227,11 +227,7 @@ impl Item<'_> {
             used: lent.log.unwrap_or(0),
         };
         let settings = Settings::from(c.asked);
-        // The call stands twice: the proof does not follow a borrow that a condition puts into an Option.
-        let answer = match lent.log {
-            None => run::run(c.cpu, page0, page1, None, settings),
-            Some(_) => run::run(c.cpu, page0, page1, Some(&mut log), settings),
-        };
+        let answer = run::run(c.cpu, page0, page1, lent.log.is_some(), &mut log, settings);
         let n = report::answer_line(&mut out, answer);
         let sums = sums_after(page0, page1, &log);
         (&out[..n] != self.want) | (sums != self.want_sums)

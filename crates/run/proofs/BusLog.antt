@@ -1,5 +1,5 @@
 -- Laws of a log: how many entries are free, and what is appended.
-use Rattle.std.proofs.Common.{◌≡◌, ℕ, ◌+◌, List, [], ◌++◌, length, sym, refl, ap, ◌∙◌, add-zero, add_assoc, arith, length-append}
+use Rattle.std.proofs.Common.{◌≡◌, ℕ, ◌+◌, Bool, true, false, List, [], ◌++◌, length, sym, refl, ap, ◌∙◌, add-zero, add_assoc, arith, length-append}
 use Rattle.std.specs.Prelude.{Option, None, Some}
 use Rattle.pages.specs.Prog.{Access}
 use denote.Triple.Both.{Both}
@@ -9,7 +9,7 @@ use Rattle.bus.specs.Code.Notes.{Appends}
 use Rattle.bus.proofs.Notes.{noted_append, noted_length}
 use Rattle.run.specs.BusLog.{Log, log_of, held_log, free_of, free_in, free_after, with_entries}
 use Rattle.run.specs.CutLog.{left_after}
-use Rattle.run.specs.Answers.{Logged}
+use Rattle.run.specs.Answers.{free_if, Logged}
 
 -- no access, and accesses after accesses
 pub after_none : (free : Option ℕ) → free_after free [] ≡ free
@@ -51,14 +51,22 @@ pub left_then : (log : Option Log) (k l : List Access) → left_after (left_afte
 left_then None k l = refl
 left_then (Some log) k l = ap Some (appended_then log k l)
 
--- a log that is lent: no access, what was appended, and what more is
-pub logged_none : {log : BusLog} → Logged [] log log
-logged_none {log} = record { log = sym (appended_none (held_log log)); lent = refl }
+-- a log that may be lent: no access, what was appended, what more is, and how many entries are then free
+pub logged_none : {lent : Bool} {log : BusLog} → Logged lent [] log log
+logged_none {lent = true} {log} = record { log = sym (appended_none (held_log log)); list = refl }
+logged_none {lent = false} = record { log = refl; list = refl }
 
-pub logged_by : {l : List Access} (log : Both (MutBor BusLog) (MutBor BusLog)) → Appends l log → Logged l log.entry.now log.exit.now
+pub logged_by : {l : List Access} (log : Both (MutBor BusLog) (MutBor BusLog)) → Appends l log → Logged true l log.entry.now log.exit.now
 unfolding with_entries
-logged_by log a = record { log = rw (a.entries, a.used) refl; lent = a.lent }
+logged_by log a = record { log = rw (a.entries, a.used) refl; list = a.lent }
 
-pub logged_then : {k l : List Access} {before now after : BusLog} → Logged k before now → Logged l now after → Logged (k ++ l) before after
-logged_then {k} {l} {before} a b =
-    record { log = b.log ∙ ap (λ x. with_entries x l) a.log ∙ appended_then (held_log before) k l; lent = b.lent ∙ a.lent }
+pub logged_then : {lent : Bool} {k l : List Access} {before now after : BusLog} → Logged lent k before now → Logged lent l now after
+    → Logged lent (k ++ l) before after
+logged_then {lent = true} {k} {l} {before} a b =
+    record { log = b.log ∙ ap (λ x. with_entries x l) a.log ∙ appended_then (held_log before) k l; list = b.list ∙ a.list }
+logged_then {lent = false} a b = record { log = b.log ∙ a.log; list = b.list ∙ a.list }
+
+pub logged_free : {lent : Bool} {l : List Access} {before now : BusLog} → Logged lent l before now → free_if lent now ≡ free_after (free_if lent before) l
+unfolding free_in
+logged_free {lent = true} {l} {before} g = ap (λ x. Some (free_of x)) g.log ∙ appended_free (held_log before) l
+logged_free {lent = false} g = refl

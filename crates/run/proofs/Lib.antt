@@ -7,8 +7,7 @@ pub mod Calls
 pub mod Demand3
 pub mod CutLog
 pub mod Loop
-pub mod LoggedSteps
-pub mod Lent
+pub mod Stretches
 pub mod RecordNumbers
 pub mod CampaignFile
 pub mod PrintedLine

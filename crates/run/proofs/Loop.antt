@@ -98,33 +98,6 @@ module _ {inputs : Inputs} {limit : ℕ} {first : Lh5801} {from : Pages} {steps 
       did_outcome (one_step inputs m p).answer (λ k. Going inputs limit first from (steps + 1) k q) d.value
       (λ s kind k e. subst (Going inputs limit first from (steps + 1) k) d.pages (after_did s kind k h e))
 
-  -- the states so far, from the ticks
-  counted : inputs.idle ≤ 255 → limit ≤ 1_000_000 → states_between first.ticks m.ticks ≡ g.states
-  counted i l = omega (arith, reaches_ticks g.reached, reaches_most i g.reached, g.within)
-
-  stop_here : {s : Stop} → steps < limit → inputs.idle ≤ 255 → limit ≤ 1_000_000 → (one_step inputs m p).answer ≡ stopped s
-      → Answers (run_of limit inputs None first from) (answer_of (Step s) steps (states_between first.ticks m.ticks) m) p
-  stop_here {s = s} h i l e =
-      record { answer = rw (counted i l, reaches_stop limit g.reached h (refl, e)); pages = rw (reaches_stop limit g.reached h (refl, e)) refl }
-
-  -- a stretch of steps
-  led_on : {r : Led} {q : Pages} → Leads inputs steps limit m p r q → Going inputs limit first from r.steps r.cpu q
-  led_on l =
-      record {
-        within = l.within;
-        states = g.states + l.states;
-        bus = g.bus ++ l.bus;
-        reached = rw l.steps (reaches_all g.reached l.reached);
-      }
-
-  -- all steps are done
-  all_done : limit ≤ steps → inputs.idle ≤ 255 → limit ≤ 1_000_000
-      → Answers (run_of limit inputs None first from) (answer_of AllSteps steps (states_between first.ticks m.ticks) m) p
-  all_done h i l =
-      let e : limit ≡ steps = omega (arith, g.within) in
-      let r : run_of limit inputs None first from ≡ _ = ap (λ (n : ℕ). run_of n inputs None first from) e ∙ reaches_run g.reached in
-      record { answer = rw (counted i l, r) refl; pages = rw r refl }
-
 -- one step is a stretch
 module _ {inputs : Inputs} {done limit : ℕ} {m : Lh5801} {p q : Pages} (room : done < limit) where
   did_leads : {k : Lh5801} → Outcome inputs m p (Ok k) q → Leads inputs done limit m p (led (done + 1) k None) q
@@ -252,22 +225,3 @@ executing_all {s} {m = m} g due moved h room =
       };
       lent = g.kept.lent;
     }
-
--- the loop over stretches
-pub kept_start : {s : Settings} {m : Lh5801} {l : Memory} → Kept s m l 0 m l
-kept_start {s} {m} {l} = record { going = at_start_lem s.inputs s.limit m (held l); lent = lent_same }
-
-module _ {s : Settings} {first : Lh5801} {l : Memory} {steps : ℕ} {m : Lh5801} {n : Memory} (g : Kept s first l steps m n) where
-  pub at_limit : s.limit ≤ steps → s.inputs.idle ≤ 255 → s.limit ≤ 1_000_000
-      → AnswersIn (run_of s.limit s.inputs None first (held l)) l (answer_of AllSteps steps (states_between first.ticks m.ticks) m) n
-  at_limit h i j = record { answers = all_done g.going h i j; lent = g.lent }
-
-  module _ {r : Led} {o : Memory} (d : LeadsIn s steps m n r o) where
-    pub kept_next : Kept s first l r.steps r.cpu o
-    kept_next = record { going = led_on g.going d.leads; lent = lent_then g.lent d.lent }
-
-    pub led_stop : {x : Stop} → r.stop ≡ Some x → s.inputs.idle ≤ 255 → s.limit ≤ 1_000_000
-        → AnswersIn (run_of s.limit s.inputs None first (held l)) l (answer_of (Step x) r.steps (states_between first.ticks r.cpu.ticks) r.cpu) o
-    led_stop {x} e i j =
-        let a : AheadIs s.inputs steps s.limit r.steps r.cpu (held o) (Some x) = subst (AheadIs s.inputs steps s.limit r.steps r.cpu (held o)) e d.leads.ahead in
-        record { answers = stop_here kept_next.going a.0 i j a.1; lent = kept_next.lent }

@@ -3,19 +3,19 @@
 
 ghost use Rattle.std.specs.Prelude.{◌≡◌, ◌+◌, ◌<◌, ◌≤◌, true, false};
 ghost use Rattle.pages.specs.Pages.{pages};
-ghost use Rattle.pages.specs.Contract.{at_entry, held};
+ghost use Rattle.pages.specs.Contract.{at_entry, held, as_shared};
 ghost use Rattle.execution.specs.Code.Due.{due_of};
 ghost use Rattle.run.specs.Acceptance.{end_number, end_byte, not_accepted};
 ghost use Rattle.run.specs.BusLog.{held_log, free_of, log_full};
 ghost use Rattle.run.specs.Run.{run_of, call_of};
-ghost use Rattle.run.specs.Answers.{lent_free, CallAnswers};
-ghost use Rattle.run.specs.Code.Leads.{unmoved_of, LeadsIn};
-ghost use Rattle.run.specs.Code.States.{answer_of, states_between, AnswersIn, LoggedIn};
+ghost use Rattle.run.specs.Answers.{free_if, CallAnswers};
+ghost use Rattle.run.specs.Code.Leads.{unmoved_of, LeadsIn, LooksAhead};
+ghost use Rattle.run.specs.Code.States.{answer_of, states_between, AnswersIn};
 
 use arithmetic::record::Lh5801;
 use bus::BusLog;
 use execution::{Executed, Inputs, Opcode, Stop};
-use pages::Memory;
+use pages::{Memory, View};
 
 pub mod campaign_file;
 pub mod line;
@@ -183,25 +183,6 @@ fn advance(cpu: Lh5801, memory: &mut Memory, settings: Settings, done: u32) -> L
     instructions(cpu, memory, settings, done)
 }
 
-// Steps up to the limit, or to the first that stops, without a log. How many steps a round completes is known after it, so that no range counts them.
-fn steps_of(cpu: Lh5801, memory: &mut Memory, settings: Settings) -> Answer
-    requires { settings.limit ≤ 1000000 }
-    ensures { AnswersIn (run_of settings.limit settings.inputs None cpu (at_entry memory)) memory.entry.now result memory.exit.now }
-{
-    let first = cpu.ticks;
-    let mut current = cpu;
-    let mut steps = 0;
-    while steps < settings.limit {
-        let led = advance(current, memory, settings, steps);
-        current = led.cpu;
-        steps = led.steps;
-        if let Some(stop) = led.stop {
-            return answered(current, first, steps, End::Step(stop));
-        }
-    }
-    answered(current, first, steps, End::AllSteps)
-}
-
 // Fewer than seven entries of a log are free, or the used count is beyond it.
 fn log_full(log: &BusLog) -> bool
     ensures { result ≡ log_full (Some (free_of (held_log log.now))) }
@@ -210,44 +191,59 @@ fn log_full(log: &BusLog) -> bool
     length < log.used || length - log.used < 7
 }
 
-// Steps, and then more of them: counted together, with the end and the record of the later ones.
-fn total(before: Answer, after: Answer) -> Answer
-    requires { (before.steps + after.steps ≤ 1000000) × (before.states + after.states ≤ 255000000) }
-    ensures { result ≡ answer_of after.end (before.steps + after.steps) (before.states + after.states) after.cpu }
+// The look before a stretch of steps, where so many of the call are completed: how many may be after it, and nothing where the log is full. Without a log
+// they go up to the limit. With one the next step is done alone, and its accesses are appended, none if it will stop.
+fn look_ahead(
+    cpu: Lh5801,
+    view: View,
+    lent: bool,
+    log: &mut BusLog,
+    limit: u32,
+    steps: u32,
+) -> Option<u32>
+    requires { steps < limit }
+    ensures { LooksAhead cpu (as_shared view) limit steps lent result log.old log.new }
 {
-    Answer {
-        steps: before.steps + after.steps,
-        states: before.states + after.states,
-        ..after
+    if !lent {
+        return Some(limit);
     }
+    if log_full(log) {
+        return None;
+    }
+    bus::note_step(cpu, view, log);
+    Some(steps + 1)
 }
 
-// The same with a log: it is looked at before each step, and the coming step's accesses are appended, none if it will stop.
-// Cold, so that it stays a function of its own: a step then takes some 35 machine instructions fewer (docs/TRIED.md).
-#[cold]
-fn logged_steps(cpu: Lh5801, memory: &mut Memory, log: &mut BusLog, settings: Settings) -> Answer
+// Steps up to the limit, to a full log or to the first that stops. How many steps a stretch completes is known after it, so that no range counts them.
+// One function with the entry: as a call it would hand the record over in memory (docs/TRIED.md).
+#[inline(always)]
+fn steps_of(
+    cpu: Lh5801,
+    memory: &mut Memory,
+    lent: bool,
+    log: &mut BusLog,
+    settings: Settings,
+) -> Answer
     requires { settings.limit ≤ 1000000 }
-    ensures { LoggedIn (run_of settings.limit settings.inputs (Some (free_of (held_log log.old))) cpu (at_entry memory)) memory.entry.now result memory.exit.now log.old log.new }
+    ensures { AnswersIn (run_of settings.limit settings.inputs (free_if lent log.old) cpu (at_entry memory)) memory.entry.now result memory.exit.now lent log.old log.new }
 {
-    let one = Settings {
-        limit: 1,
-        ..settings
-    };
-    let mut all = answered(cpu, cpu.ticks, 0, End::AllSteps);
-    for _ in 0..settings.limit {
-        if log_full(log) {
-            return Answer {
-                end: End::LogFull,
-                ..all
-            };
-        }
-        bus::note_step(all.cpu, memory.view(), log);
-        all = total(all, steps_of(all.cpu, memory, one));
-        if let End::Step(_) = all.end {
-            return all;
+    let first = cpu.ticks;
+    let mut current = cpu;
+    let mut steps = 0;
+    while steps < settings.limit {
+        let ahead = look_ahead(current, memory.view(), lent, log, settings.limit, steps);
+        let Some(limit) = ahead else {
+            return answered(current, first, steps, End::LogFull);
+        };
+        let stretch = Settings { limit, ..settings };
+        let led = advance(current, memory, stretch, steps);
+        current = led.cpu;
+        steps = led.steps;
+        if let Some(stop) = led.stop {
+            return answered(current, first, steps, End::Step(stop));
         }
     }
-    all
+    answered(current, first, steps, End::AllSteps)
 }
 
 // Why a call is not accepted, if so: the first of the conditions that holds.
@@ -270,15 +266,17 @@ fn not_accepted(cpu: Lh5801, memory: &Memory, settings: Settings) -> Option<End>
     None
 }
 
-/// The run call: not accepted, or its steps. A bus log may be lent to it.
+/// The run call: not accepted, or its steps. A log that is not lent is left as it is, and the call is one without a log.
+#[inline(always)]
 pub fn run(
     cpu: Lh5801,
     page0: &mut [u8],
     page1: &mut [u8],
-    log: Option<&mut BusLog>,
+    lent: bool,
+    log: &mut BusLog,
     settings: Settings,
 ) -> Answer
-    ensures { CallAnswers (call_of settings (lent_free log.entry) cpu (pages page0.old page1.old)) result (pages page0.new page1.new) log.entry log.exit }
+    ensures { CallAnswers (call_of settings (free_if lent log.old) cpu (pages page0.old page1.old)) result (pages page0.new page1.new) lent log.old log.new }
 {
     let mut memory = Memory { page0, page1 };
     if let Some(end) = not_accepted(cpu, &memory, settings) {
@@ -289,8 +287,5 @@ pub fn run(
             cpu,
         };
     }
-    match log {
-        None => steps_of(cpu, &mut memory, settings),
-        Some(log) => logged_steps(cpu, &mut memory, log, settings),
-    }
+    steps_of(cpu, &mut memory, lent, log, settings)
 }

@@ -22,17 +22,19 @@ pub fn run_parts(
     len0: usize,
     page1: &mut [u8],
     len1: usize,
-    log: Option<&mut BusLog>,
+    lent: bool,
+    log: &mut BusLog,
     settings: Settings,
 ) -> Answer
     requires { (len0 ≤ length page0.old) × (len1 ≤ length page1.old) }
-    ensures { RunParts settings log.entry cpu page0.old len0 page1.old len1 result page0.new page1.new log.exit }
+    ensures { RunParts settings lent log.old cpu page0.old len0 page1.old len1 result page0.new page1.new log.new }
 {
-    let page0 = &mut page0[..len0];
-    let page1 = &mut page1[..len1];
-    // A log that is handed on unopened is not followed by the proof.
-    match log {
-        None => crate::run(cpu, page0, page1, None, settings),
-        Some(log) => crate::run(cpu, page0, page1, Some(log), settings),
-    }
+    crate::run(
+        cpu,
+        &mut page0[..len0],
+        &mut page1[..len1],
+        lent,
+        log,
+        settings,
+    )
 }

@@ -6,6 +6,7 @@ ghost use Rattle.run.specs.Report.{pages_in, settings_in, answer_line, report_of
 
 use crate::campaign_file::{Asked, Parsed};
 use crate::{Answer, Settings, campaign_file, line, parts};
+use bus::BusLog;
 use execution::Inputs;
 
 // What a call is given by what a file asks.
@@ -31,13 +32,18 @@ fn file_answer(bytes: &[u8], c: Parsed) -> Answer
     let mut page1 = [0u8; 16384];
     parts::copy_part(bytes, c.page0.at, &mut page0, c.page0.len);
     parts::copy_part(bytes, c.page1.at, &mut page1, c.page1.len);
+    let mut log = BusLog {
+        entries: &mut [],
+        used: 0,
+    };
     parts::run_parts(
         c.cpu,
         &mut page0,
         c.page0.len,
         &mut page1,
         c.page1.len,
-        None,
+        false,
+        &mut log,
         Settings::from(c.asked),
     )
 }

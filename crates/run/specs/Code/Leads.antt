@@ -1,5 +1,5 @@
 -- How the code is built, and need not be believed (proofs/Loop.antt ties it): what a stretch of a call's steps comes to, which the code takes as one piece.
-use Rattle.std.specs.Prelude.{◌≡◌, ℕ, ◌+◌, ◌<◌, ◌≤◌, List, Option, None, Some}
+use Rattle.std.specs.Prelude.{◌≡◌, ℕ, Bool, true, false, ◌+◌, ◌<◌, ◌≤◌, List, Option, None, Some}
 use Rattle.arithmetic.specs.declared.record.Lh5801.{Lh5801}
 use Rattle.arithmetic.specs.Record.{with_ir1, with_is_timer_reached}
 use Rattle.execution.specs.declared.Inputs.{Inputs}
@@ -13,6 +13,10 @@ use Rattle.run.specs.declared.Settings.{Settings}
 use Rattle.run.specs.declared.Led.{Led}
 use Rattle.run.specs.Run.{one_step}
 use Rattle.run.specs.Reaches.{Reaches}
+use Rattle.bus.specs.declared.BusLog.{BusLog}
+use Rattle.execution.specs.Completed.{completed_accesses}
+use Rattle.run.specs.BusLog.{Full, NotFull}
+use Rattle.run.specs.Answers.{free_if, Logged}
 
 abbrev pub led : ℕ → Lh5801 → Option Stop → Led
 led steps m s = record { steps = steps; cpu = m; stop = s }
@@ -37,6 +41,17 @@ pub record Leads (inputs : Inputs) (done limit : ℕ) (m : Lh5801) (p : Pages) (
 pub record LeadsIn (s : Settings) (done : ℕ) (m : Lh5801) (l : Memory) (r : Led) (n : Memory) : Type 0 where
   pub leads : Leads s.inputs done s.limit m (held l) r (held n)
   pub lent : SameLent l n
+
+-- what the look before a stretch finds, where so many steps of a call are completed
+pub data LooksAhead (m : Lh5801) (p : Pages) (limit steps : ℕ) : Bool → Option ℕ → BusLog → BusLog → Type 0 where
+  -- without a log the stretch may go up to the limit
+  unlent : {log : BusLog} → LooksAhead m p limit steps false (Some limit) log log
+  -- the log is full
+  full : {log : BusLog} → Full (free_if true log) → LooksAhead m p limit steps true None log log
+  -- it is not: the accesses of the coming step are appended, none if it will stop, and the stretch is that step
+  noted : {before after : BusLog} → NotFull (free_if true before)
+      → ((inputs : Inputs) → Logged true (completed_accesses (one_step inputs m p)) before after)
+      → LooksAhead m p limit steps true (Some (steps + 1)) before after
 
 -- IR1 and timer reached as they were before
 unfoldable pub unmoved_of : Lh5801 → Lh5801 → Lh5801

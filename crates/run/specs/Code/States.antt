@@ -1,5 +1,5 @@
 -- How the code is built, and need not be believed (proofs/Loop.antt ties it): the answer is put together at its end, and its states are counted by the ticks.
-use Rattle.std.specs.Prelude.{ℕ, ◌+◌, ◌-◌, ◌%◌, ◌^◌}
+use Rattle.std.specs.Prelude.{ℕ, Bool, ◌+◌, ◌-◌, ◌%◌, ◌^◌}
 use Rattle.arithmetic.specs.declared.record.Lh5801.{Lh5801}
 use Rattle.pages.specs.declared.Memory.{Memory}
 use Rattle.pages.specs.Contract.{held, SameLent}
@@ -16,12 +16,8 @@ answer_of e steps states m = record { end = e; steps = steps; states = states; c
 abbrev pub states_between : ℕ → ℕ → ℕ
 states_between first now = (now + (2 ^ 64 - first % 2 ^ 64)) % 2 ^ 64
 
--- an answer and the pages, in a memory that holds the same lent pages
-pub record AnswersIn (o : CallResult) (l : Memory) (r : Answer) (n : Memory) : Type 0 where
+-- an answer, the pages and a log that may be lent, in a memory that holds the same lent pages
+pub record AnswersIn (o : CallResult) (l : Memory) (r : Answer) (n : Memory) (lent : Bool) (before after : BusLog) : Type 0 where
   pub answers : Answers o r (held n)
-  pub lent : SameLent l n
-
--- and with a log
-pub record LoggedIn (o : CallResult) (l : Memory) (r : Answer) (n : Memory) (before after : BusLog) : Type 0 where
-  pub part : AnswersIn o l r n
-  pub logged : Logged o.bus before after
+  pub same : SameLent l n
+  pub logged : Logged lent o.bus before after

@@ -1,6 +1,5 @@
-//! The symbols of the port's archive: the exported entry, the loop over steps, which a call with a log
-//! and one without both take, and no other function but those that a log needs, which are kept out of
-//! that loop (docs/DECISIONS.md, F-2).
+//! The symbols of the port's archive: the exported entry, with the loop over steps in it, and no other
+//! function but those of the crate `bus`, which only a call with a log takes (docs/DECISIONS.md, F-2).
 
 #![forbid(unsafe_code)]
 
@@ -27,10 +26,9 @@ fn is_text(kind: char) -> bool {
     "TtWwi".contains(kind)
 }
 
-/// A function that a log needs, not exported: of the crate `bus`, which computes its entries, or the
-/// run's own loop with a log; or the loop over steps.
+/// A function that a log needs, not exported: of the crate `bus`, which computes its entries.
 fn is_of_log(kind: char, name: &str) -> bool {
-    kind == 't' && ["bus", "run::logged_steps", "run::steps_of"].iter().any(|it| name.contains(it))
+    kind == 't' && name.starts_with("bus::")
 }
 
 /// Is the entry exported, and is every other function the log's?
@@ -40,8 +38,7 @@ fn entry_alone(symbols: &[(char, String)]) -> bool {
     symbols.contains(&('T', ENTRY.to_string())) && !symbols.iter().any(other)
 }
 
-/// Checks the archive; true where the entry is its only function besides the loop over steps and those
-/// of the log.
+/// Checks the archive; true where the entry is its only function besides those of the log.
 pub fn run(archive: &Path) -> Result<bool, String> {
     if !archive.is_file() {
         return Err(format!(
@@ -66,7 +63,7 @@ pub fn run(archive: &Path) -> Result<bool, String> {
     println!("other symbols: {}", of(&|kind| kind != 'U' && !is_text(kind)).join(" "));
     let alone = entry_alone(&symbols);
     let only = if alone { "the only" } else { "NOT the only" };
-    println!("{ENTRY} is {only} function besides the loop over steps and those of the log");
+    println!("{ENTRY} is {only} function besides those of the log");
     Ok(alone)
 }
 
@@ -86,10 +83,7 @@ mod tests {
     fn another_function_is_found() {
         let with = |line: &str| entry_alone(&symbols(&format!("0000 T lh5801_call\n{line}\n")));
         assert!(with("0000 t bus::note_at"));
-        assert!(with("0000 t run::logged_steps"));
-        assert!(with("0000 t run::steps_of"));
-        assert!(!with("0000 T run::steps_of"));
-        assert!(!with("0000 t run::advance"));
+        assert!(!with("0000 t run::steps_of"));
         assert!(!with("0000 T bus::note_at"));
         assert!(!entry_alone(&symbols("0000 t lh5801_call\n")));
     }

@@ -18,14 +18,10 @@ use Rattle.execution.proofs.Order.{reached_ready, reached_back, step_reached}
 use Rattle.execution.proofs.DueTest.{due_on}
 use Rattle.execution.proofs.StopsClean.{stop_no_write}
 use Rattle.run.specs.declared.Settings.{Settings}
-use Rattle.run.specs.declared.End.TheVariants.{AllSteps, Step}
-use Rattle.run.specs.Run.{one_step, run_of}
+use Rattle.run.specs.Run.{one_step}
 use Rattle.run.specs.Reaches.{Reaches, start}
-use Rattle.run.specs.declared.Led.{Led}
-use Rattle.run.specs.Code.Leads.{AheadIs, Leads, LeadsIn, led, unmoved_of}
-use Rattle.run.specs.Answers.{Answers}
-use Rattle.run.specs.Code.States.{answer_of, states_between, AnswersIn}
-use Rattle.run.proofs.Ends.{reaches_run, reaches_stop, reaches_then, reaches_all, reaches_none, reaches_from, reaches_ticks, reaches_most}
+use Rattle.run.specs.Code.Leads.{Leads, LeadsIn, led, unmoved_of}
+use Rattle.run.proofs.Ends.{reaches_then, reaches_none, reaches_from}
 
 -- what an instruction was found to have come to is what its step does
 pub executed_by : (m : Lh5801) (inputs : Inputs) {p q : Memory} {r o : Result Executed Stop}

@@ -1,5 +1,5 @@
 -- The loop over stretches of steps, with a log that may be lent: what it keeps, and how a stretch, a stop, a full log and the limit go on from it.
-use Rattle.std.proofs.Common.{◌≡◌, ℕ, ◌+◌, ◌<◌, ◌≤◌, Bool, true, false, List, [], ◌++◌, sym, refl, ap, ◌∙◌, append-nil, true≢false, arith, subst}
+use Rattle.std.proofs.Common.{◌≡◌, ℕ, ◌+◌, ◌<◌, ◌≤◌, Bool, true, List, [], ◌++◌, sym, refl, ap, ◌∙◌, append-nil, arith, subst}
 use Rattle.std.specs.Prelude.{Option, None, Some}
 use Rattle.arithmetic.specs.declared.record.Lh5801.{Lh5801}
 use Rattle.execution.specs.declared.Inputs.{Inputs}

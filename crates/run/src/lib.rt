@@ -231,8 +231,8 @@ fn steps_of(
     let mut current = cpu;
     let mut steps = 0;
     while steps < settings.limit {
-        let ahead = look_ahead(current, memory.view(), lent, log, settings.limit, steps);
-        let Some(limit) = ahead else {
+        let Some(limit) = look_ahead(current, memory.view(), lent, log, settings.limit, steps)
+        else {
             return answered(current, first, steps, End::LogFull);
         };
         let stretch = Settings { limit, ..settings };

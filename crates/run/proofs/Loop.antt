@@ -3,7 +3,6 @@ use Rattle.std.proofs.Common.{◌≡◌, ℕ, ◌+◌, ◌<◌, ◌≤◌, true,
 use Rattle.std.specs.Prelude.{None, Some, Result, Ok, Err}
 use Rattle.arithmetic.specs.declared.record.Lh5801.{Lh5801}
 use Rattle.execution.specs.declared.Inputs.{Inputs}
-use Rattle.arithmetic.proofs.Status.{requested_same}
 use Rattle.pages.specs.declared.Memory.{Memory}
 use Rattle.pages.specs.Pages.{Pages}
 use Rattle.pages.specs.Prog.{Access, mapped, exec}
@@ -122,11 +121,6 @@ same_step inputs m due moved = ap (λ (k : Lh5801). step_of k inputs) moved ∙ 
 moved_back : (m : Lh5801) → unmoved_of (reached_of m) m ≡ m
 unfolding unmoved_of
 moved_back m = reached_back m
-
--- where nothing has moved, nothing changes
-pub unmoved_same : (m : Lh5801) → unmoved_of m m ≡ m
-unfolding unmoved_of
-unmoved_same m = requested_same m
 
 -- the loop over instructions, from its start on
 pub executing_start : {s : Settings} {done : ℕ} (m : Lh5801) {l : Memory} {first : Lh5801} → due_of m ≡ true → done < s.limit → first ≡ reached_of m

@@ -49,7 +49,7 @@ fn words_of(r: Answer) -> [u64; 16]
     words
 }
 
-/// The run call; the used count after it is returned. `logged` says whether a log is lent, as C has no Option. In C: lh5801_call(words, page0, length0, page1, length1, limit, keyboard, idle, logged, log,
+/// The run call; the used count after it is returned. `logged` says whether the log is lent. In C: lh5801_call(words, page0, length0, page1, length1, limit, keyboard, idle, logged, log,
 /// log_length, log_used).
 #[unsafe(no_mangle)]
 pub extern "C" fn lh5801_call(
@@ -71,11 +71,11 @@ pub extern "C" fn lh5801_call(
         inputs: Inputs { keyboard, idle },
         limit,
     };
-    let mut lent = BusLog {
+    let mut bus_log = BusLog {
         entries: log,
         used: log_used,
     };
-    let answer = run::run(cpu, page0, page1, logged, &mut lent, settings);
+    let answer = run::run(cpu, page0, page1, logged, &mut bus_log, settings);
     *words = words_of(answer);
-    lent.used
+    bus_log.used
 }

@@ -52,21 +52,21 @@ left_then None k l = refl
 left_then (Some log) k l = ap Some (appended_then log k l)
 
 -- a log that may be lent: no access, what was appended, what more is, and how many entries are then free
-pub logged_none : {lent : Bool} {log : BusLog} → Logged lent [] log log
-logged_none {lent = true} {log} = record { log = sym (appended_none (held_log log)); list = refl }
-logged_none {lent = false} = record { log = refl; list = refl }
+pub logged_none : {is_lent : Bool} {log : BusLog} → Logged is_lent [] log log
+logged_none {is_lent = true} {log} = record { log = sym (appended_none (held_log log)); lent = refl }
+logged_none {is_lent = false} = record { log = refl; lent = refl }
 
 pub logged_by : {l : List Access} (log : Both (MutBor BusLog) (MutBor BusLog)) → Appends l log → Logged true l log.entry.now log.exit.now
 unfolding with_entries
-logged_by log a = record { log = rw (a.entries, a.used) refl; list = a.lent }
+logged_by log a = record { log = rw (a.entries, a.used) refl; lent = a.lent }
 
-pub logged_then : {lent : Bool} {k l : List Access} {before now after : BusLog} → Logged lent k before now → Logged lent l now after
-    → Logged lent (k ++ l) before after
-logged_then {lent = true} {k} {l} {before} a b =
-    record { log = b.log ∙ ap (λ x. with_entries x l) a.log ∙ appended_then (held_log before) k l; list = b.list ∙ a.list }
-logged_then {lent = false} a b = record { log = b.log ∙ a.log; list = b.list ∙ a.list }
+pub logged_then : {is_lent : Bool} {k l : List Access} {before now after : BusLog} → Logged is_lent k before now → Logged is_lent l now after
+    → Logged is_lent (k ++ l) before after
+logged_then {is_lent = true} {k} {l} {before} a b =
+    record { log = b.log ∙ ap (λ x. with_entries x l) a.log ∙ appended_then (held_log before) k l; lent = b.lent ∙ a.lent }
+logged_then {is_lent = false} a b = record { log = b.log ∙ a.log; lent = b.lent ∙ a.lent }
 
-pub logged_free : {lent : Bool} {l : List Access} {before now : BusLog} → Logged lent l before now → free_if lent now ≡ free_after (free_if lent before) l
+pub logged_free : {is_lent : Bool} {l : List Access} {before now : BusLog} → Logged is_lent l before now → free_if is_lent now ≡ free_after (free_if is_lent before) l
 unfolding free_in
-logged_free {lent = true} {l} {before} g = ap (λ x. Some (free_of x)) g.log ∙ appended_free (held_log before) l
-logged_free {lent = false} g = refl
+logged_free {is_lent = true} {l} {before} g = ap (λ x. Some (free_of x)) g.log ∙ appended_free (held_log before) l
+logged_free {is_lent = false} g = refl

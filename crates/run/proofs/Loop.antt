@@ -1,4 +1,4 @@
--- What the loop of a call without a log keeps, and how a step, a stop and the limit go on from it.
+-- What the loop over instructions keeps, and how a step, a stop and the limit go on from it. No log is looked at here.
 use Rattle.std.proofs.Common.{◌≡◌, ℕ, ◌+◌, ◌<◌, ◌≤◌, true, List, [], ◌++◌, sym, refl, ap, ◌∙◌, subst, true≢false, arith}
 use Rattle.std.specs.Prelude.{None, Some, Result, Ok, Err}
 use Rattle.arithmetic.specs.declared.record.Lh5801.{Lh5801}
@@ -11,8 +11,7 @@ use Rattle.pages.proofs.Does.{mapped_value, mapped_pages, lent_same, lent_then}
 use Rattle.execution.specs.declared.Stop.{Stop}
 use Rattle.execution.specs.Step.{Kind, StepEnd, did, stopped, reached_of, step_of}
 use Rattle.execution.specs.Code.Outcomes.{outcome_of}
-use Rattle.execution.specs.declared.Executed.{Executed}
-use Rattle.execution.specs.Code.Due.{due_of, Ready, executed_of}
+use Rattle.execution.specs.Code.Due.{due_of, Ready}
 use Rattle.execution.proofs.Order.{reached_ready, reached_back, step_reached}
 use Rattle.execution.proofs.DueTest.{due_on}
 use Rattle.execution.proofs.StopsClean.{stop_no_write}
@@ -21,13 +20,6 @@ use Rattle.run.specs.Run.{one_step}
 use Rattle.run.specs.Reaches.{Reaches, start}
 use Rattle.run.specs.Code.Leads.{Leads, LeadsIn, led, unmoved_of}
 use Rattle.run.proofs.Ends.{reaches_then, reaches_none, reaches_from}
-
--- what an instruction was found to have come to is what its step does
-pub executed_by : (m : Lh5801) (inputs : Inputs) {p q : Memory} {r o : Result Executed Stop}
-    → Does (mapped executed_of (step_of m inputs)) p r q
-    → r ≡ o
-    → Does (mapped executed_of (step_of m inputs)) p o q
-executed_by m inputs {p} {q} d e = subst (λ (x : Result Executed Stop). Does (mapped executed_of (step_of m inputs)) p x q) e d
 
 -- after so many completed steps: what they have led to
 pub record Going (inputs : Inputs) (limit : ℕ) (first : Lh5801) (from : Pages) (steps : ℕ) (m : Lh5801) (p : Pages) : Type 0 where

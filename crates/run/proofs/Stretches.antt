@@ -21,29 +21,29 @@ use Rattle.run.specs.Run.{CallResult, call_result, one_step, run_of, call_of, se
 use Rattle.run.specs.Reaches.{Reaches, start, next}
 use Rattle.run.specs.declared.Answer.{Answer}
 use Rattle.run.specs.Answers.{free_if, Logged, CallAnswers}
-use Rattle.run.specs.Code.Leads.{AheadIs, Leads, LeadsIn, LooksAhead, unlent, full, noted}
+use Rattle.run.specs.Code.Leads.{AheadIs, Leads, LeadsIn, NotesAhead, no_log, full, has_room}
 use Rattle.run.specs.Code.States.{answer_of, states_between, AnswersIn}
 use Rattle.run.proofs.BusLog.{after_none, after_append, logged_none, logged_then, logged_free}
 use Rattle.run.proofs.Acceptance.{call_run, accepted_by}
 use Rattle.run.proofs.Ends.{reaches_run, reaches_full, reaches_stop, reaches_all, reaches_none, reaches_logged, reaches_ticks, reaches_most}
 
 -- so many completed steps of the call have led here, and their accesses were appended, if a log is lent
-pub record Stretched (s : Settings) (lent : Bool) (before : BusLog) (first : Lh5801) (l : Memory) (steps : ℕ) (m : Lh5801) (n : Memory) (now : BusLog) : Type 0 where
+pub record Stretched (s : Settings) (is_lent : Bool) (before : BusLog) (first : Lh5801) (l : Memory) (steps : ℕ) (m : Lh5801) (n : Memory) (now : BusLog) : Type 0 where
   pub within : steps ≤ s.limit
   pub states : ℕ
   pub bus : List Access
-  pub reached : Reaches s.inputs (free_if lent before) steps first (held l) m (held n) states bus
-  pub same : SameLent l n
-  pub logged : Logged lent bus before now
+  pub reached : Reaches s.inputs (free_if is_lent before) steps first (held l) m (held n) states bus
+  pub lent : SameLent l n
+  pub logged : Logged is_lent bus before now
 
-pub stretched_start : {s : Settings} {lent : Bool} {log : BusLog} {m : Lh5801} {l : Memory} → Stretched s lent log m l 0 m l log
-stretched_start = record { within = omega arith; states = 0; bus = []; reached = start; same = lent_same; logged = logged_none }
+pub stretched_start : {s : Settings} {is_lent : Bool} {log : BusLog} {m : Lh5801} {l : Memory} → Stretched s is_lent log m l 0 m l log
+stretched_start = record { within = omega arith; states = 0; bus = []; reached = start; lent = lent_same; logged = logged_none }
 
 -- what is told and left, from what the call comes to
-told : {o : CallResult} {l n : Memory} {e : End} {j t u : ℕ} {k : Lh5801} {bus : List Access} {lent : Bool} {before now : BusLog}
-    → o ≡ call_result e j t k (held n) bus → u ≡ t → SameLent l n → Logged lent bus before now
-    → AnswersIn o l (answer_of e j u k) n lent before now
-told c w s g = rw (c, w) (record { answers = record { answer = refl; pages = refl }; same = s; logged = g })
+told : {o : CallResult} {l n : Memory} {e : End} {j t u : ℕ} {k : Lh5801} {bus : List Access} {is_lent : Bool} {before now : BusLog}
+    → o ≡ call_result e j t k (held n) bus → u ≡ t → SameLent l n → Logged is_lent bus before now
+    → AnswersIn o l (answer_of e j u k) n is_lent before now
+told c w s g = rw (c, w) (record { answers = record { answer = refl; pages = refl }; lent = s; logged = g })
 
 -- the accesses of one completed step, or of none before one that stops
 one_bus : {inputs : Inputs} {j : ℕ} {m k : Lh5801} {p q : Pages} {t : ℕ} {l : List Access}
@@ -52,103 +52,105 @@ one_bus : {inputs : Inputs} {j : ℕ} {m k : Lh5801} {p q : Pages} {t : ℕ} {l 
 one_bus start h none = none refl
 one_bus (next f e r) h none = rw (e, (reaches_none r (omega (arith, h))).3) (sym (append-nil _))
 
--- what is known of a stretch by what the look ahead found
-module _ {limit steps : ℕ} {m : Lh5801} {p : Pages} where
-  full_ahead : {lent : Bool} {now after : BusLog} → LooksAhead m p limit steps lent None now after → Full (free_if lent now) × (after ≡ now)
+-- what is known before a stretch
+module _ {done limit : ℕ} {m : Lh5801} {p : Pages} where
+  full_ahead : {is_lent : Bool} {now after : BusLog} → NotesAhead m p done limit is_lent None now after → Full (free_if is_lent now) × (after ≡ now)
   full_ahead (full f) = (f, refl)
 
-  room_ahead : {lent : Bool} {upto : ℕ} {now after : BusLog} → steps < limit → LooksAhead m p limit steps lent (Some upto) now after → upto ≤ limit
-  room_ahead h unlent = omega arith
-  room_ahead h (noted f g) = omega (arith, h)
+  room_ahead : {is_lent : Bool} {reach : ℕ} {now after : BusLog} → done < limit → NotesAhead m p done limit is_lent (Some reach) now after → reach ≤ limit
+  room_ahead h no_log = omega arith
+  room_ahead h (has_room f g) = omega (arith, h)
 
 -- where no step of a stretch was completed, the next one stops, and none of its accesses is logged
-none_before : {inputs : Inputs} {steps limit : ℕ} {m : Lh5801} {p : Pages} {r : Led} {q : Pages} (d : Leads inputs steps limit m p r q) → d.more ≡ 0
+none_before : {inputs : Inputs} {done limit : ℕ} {m : Lh5801} {p : Pages} {r : Led} {q : Pages} (d : Leads inputs done limit m p r q) → d.more ≡ 0
     → completed_accesses (one_step inputs r.cpu q) ≡ []
-none_before {inputs} {steps} {limit} {r = r} {q = q} d z = go r.stop d.ahead
+none_before {inputs} {done} {limit} {r = r} {q = q} d z = go r.stop d.ahead
   where
-    go : (x : Option Stop) → AheadIs inputs steps limit r.steps r.cpu q x → completed_accesses (one_step inputs r.cpu q) ≡ []
+    go : (x : Option Stop) → AheadIs inputs done limit r.steps r.cpu q x → completed_accesses (one_step inputs r.cpu q) ≡ []
     go None a = absurd (omega (arith, a, z, d.steps))
     go (Some s) a = rw a.1 refl
 
-module _ {limit steps : ℕ} {m : Lh5801} {p : Pages} {inputs : Inputs} {r : Led} {q : Pages} where
-  -- what a stretch leads to, with the log that the look ahead left
-  stretch_reached : {lent : Bool} {upto : ℕ} {now after : BusLog} (d : Leads inputs steps upto m p r q) → LooksAhead m p limit steps lent (Some upto) now after
-      → Reaches inputs (free_if lent now) d.more m p r.cpu q d.states d.bus × Logged lent d.bus now after
+module _ {done limit : ℕ} {m : Lh5801} {p : Pages} {inputs : Inputs} {r : Led} {q : Pages} where
+  -- what a stretch leads to, with the log as it was left before it
+  stretch_reached : {is_lent : Bool} {reach : ℕ} {now after : BusLog} (d : Leads inputs done reach m p r q)
+      → NotesAhead m p done limit is_lent (Some reach) now after
+      → Reaches inputs (free_if is_lent now) d.more m p r.cpu q d.states d.bus × Logged is_lent d.bus now after
   unfolding free_in
-  stretch_reached d unlent = (d.reached, record { log = refl; list = refl })
-  stretch_reached d (noted f g) =
+  stretch_reached d no_log = (d.reached, record { log = refl; lent = refl })
+  stretch_reached d (has_room f g) =
       let few : d.more ≤ 1 = omega (arith, d.within, d.steps) in
       (reaches_logged f few d.reached, rw (one_bus d.reached few (none_before d)) at (g inputs))
 
   -- before a stop the log is not full
-  clear_ahead : {lent : Bool} {upto : ℕ} {now after : BusLog} {x : Stop} (d : Leads inputs steps upto m p r q) → LooksAhead m p limit steps lent (Some upto) now after
+  not_full_ahead : {is_lent : Bool} {reach : ℕ} {now after : BusLog} {x : Stop} (d : Leads inputs done reach m p r q)
+      → NotesAhead m p done limit is_lent (Some reach) now after
       → r.stop ≡ Some x
-      → NotFull (free_after (free_if lent now) d.bus)
+      → NotFull (free_after (free_if is_lent now) d.bus)
   unfolding free_in
-  clear_ahead d unlent e = refl
-  clear_ahead {upto = upto} {now = now} {x = x} d (noted f g) e =
-      let stops : AheadIs inputs steps (steps + 1) r.steps r.cpu q (Some x) = subst (AheadIs inputs steps (steps + 1) r.steps r.cpu q) e d.ahead in
+  not_full_ahead d no_log e = refl
+  not_full_ahead {now = now} {x = x} d (has_room f g) e =
+      let stops : AheadIs inputs done (done + 1) r.steps r.cpu q (Some x) = subst (AheadIs inputs done (done + 1) r.steps r.cpu q) e d.ahead in
       let none : d.more ≡ 0 = omega (arith, stops.0, d.steps) in
       subst (λ (l : List Access). NotFull (free_after (free_if true now) l)) (sym (reaches_none d.reached none).3)
       (subst NotFull (sym (after_none (free_if true now))) f)
 
 -- the states so far, from the ticks
-counted : {s : Settings} {lent : Bool} {before : BusLog} {first : Lh5801} {l : Memory} {steps : ℕ} {m : Lh5801} {n : Memory} {now : BusLog}
-    (g : Stretched s lent before first l steps m n now) → s.inputs.idle ≤ 255 → s.limit ≤ 1_000_000 → states_between first.ticks m.ticks ≡ g.states
+counted : {s : Settings} {is_lent : Bool} {before : BusLog} {first : Lh5801} {l : Memory} {steps : ℕ} {m : Lh5801} {n : Memory} {now : BusLog}
+    (g : Stretched s is_lent before first l steps m n now) → s.inputs.idle ≤ 255 → s.limit ≤ 1_000_000 → states_between first.ticks m.ticks ≡ g.states
 counted g i j = omega (arith, reaches_ticks g.reached, reaches_most i g.reached, g.within)
 
-module _ {s : Settings} {lent : Bool} {before : BusLog} {first : Lh5801} {l : Memory} {steps : ℕ} {m : Lh5801} {n : Memory} {now : BusLog}
-    (g : Stretched s lent before first l steps m n now) where
+module _ {s : Settings} {is_lent : Bool} {before : BusLog} {first : Lh5801} {l : Memory} {steps : ℕ} {m : Lh5801} {n : Memory} {now : BusLog}
+    (g : Stretched s is_lent before first l steps m n now) where
   abbrev call : CallResult
-  call = run_of s.limit s.inputs (free_if lent before) first (held l)
+  call = run_of s.limit s.inputs (free_if is_lent before) first (held l)
 
   -- all steps are done
   pub stretched_all : s.limit ≤ steps → s.inputs.idle ≤ 255 → s.limit ≤ 1_000_000
-      → AnswersIn call l (answer_of AllSteps steps (states_between first.ticks m.ticks) m) n lent before now
+      → AnswersIn call l (answer_of AllSteps steps (states_between first.ticks m.ticks) m) n is_lent before now
   stretched_all h i j =
       let e : s.limit ≡ steps = omega (arith, h, g.within) in
-      told (ap (λ (k : ℕ). run_of k s.inputs (free_if lent before) first (held l)) e ∙ reaches_run g.reached) (counted g i j) g.same g.logged
+      told (ap (λ (k : ℕ). run_of k s.inputs (free_if is_lent before) first (held l)) e ∙ reaches_run g.reached) (counted g i j) g.lent g.logged
 
   module _ (room : steps < s.limit) {after : BusLog} where
     -- the log is full
-    pub stretched_full : LooksAhead m (held n) s.limit steps lent None now after → s.inputs.idle ≤ 255 → s.limit ≤ 1_000_000
-        → AnswersIn call l (answer_of LogFull steps (states_between first.ticks m.ticks) m) n lent before after
+    pub stretched_full : NotesAhead m (held n) steps s.limit is_lent None now after → s.inputs.idle ≤ 255 → s.limit ≤ 1_000_000
+        → AnswersIn call l (answer_of LogFull steps (states_between first.ticks m.ticks) m) n is_lent before after
     stretched_full a i j =
         let f = full_ahead a in
-        rw f.1 (told (reaches_full s.limit g.reached room (subst Full (logged_free g.logged) f.0)) (counted g i j) g.same g.logged)
+        rw f.1 (told (reaches_full s.limit g.reached room (subst Full (logged_free g.logged) f.0)) (counted g i j) g.lent g.logged)
 
-    module _ {upto : ℕ} (a : LooksAhead m (held n) s.limit steps lent (Some upto) now after) {r : Led} {o : Memory}
-        (d : LeadsIn (settings s.inputs upto) steps m n r o) where
+    module _ {reach : ℕ} (a : NotesAhead m (held n) steps s.limit is_lent (Some reach) now after) {r : Led} {o : Memory}
+        (d : LeadsIn (settings s.inputs reach) steps m n r o) where
       -- a stretch is done
-      pub stretched_next : Stretched s lent before first l r.steps r.cpu o after
+      pub stretched_next : Stretched s is_lent before first l r.steps r.cpu o after
       stretched_next =
-          let more = stretch_reached d.leads a in
+          let next = stretch_reached d.leads a in
           record {
             within = omega (arith, d.leads.within, room_ahead room a);
             states = g.states + d.leads.states;
             bus = g.bus ++ d.leads.bus;
-            reached = rw d.leads.steps (reaches_all g.reached (rw (logged_free g.logged) at more.0));
-            same = lent_then g.same d.lent;
-            logged = logged_then g.logged more.1;
+            reached = rw d.leads.steps (reaches_all g.reached (rw (logged_free g.logged) at next.0));
+            lent = lent_then g.lent d.lent;
+            logged = logged_then g.logged next.1;
           }
 
-      clear : {x : Stop} → r.stop ≡ Some x → NotFull (free_after (free_if lent before) (g.bus ++ d.leads.bus))
-      clear e = rw (after_append (free_if lent before) g.bus d.leads.bus) (rw (logged_free g.logged) at (clear_ahead d.leads a e))
+      not_full : {x : Stop} → r.stop ≡ Some x → NotFull (free_after (free_if is_lent before) (g.bus ++ d.leads.bus))
+      not_full e = rw (after_append (free_if is_lent before) g.bus d.leads.bus) (rw (logged_free g.logged) at (not_full_ahead d.leads a e))
 
       -- the next step stops after it
       pub stretched_stop : {x : Stop} → r.stop ≡ Some x → s.inputs.idle ≤ 255 → s.limit ≤ 1_000_000
-          → AnswersIn call l (answer_of (Step x) r.steps (states_between first.ticks r.cpu.ticks) r.cpu) o lent before after
+          → AnswersIn call l (answer_of (Step x) r.steps (states_between first.ticks r.cpu.ticks) r.cpu) o is_lent before after
       unfolding stretched_next
       stretched_stop {x} e i j =
           let k = stretched_next in
-          let stops : AheadIs s.inputs steps upto r.steps r.cpu (held o) (Some x) = subst (AheadIs s.inputs steps upto r.steps r.cpu (held o)) e d.leads.ahead in
-          told (reaches_stop s.limit k.reached (omega (arith, stops.0, room_ahead room a)) (clear e, stops.1)) (counted k i j) k.same k.logged
+          let stops : AheadIs s.inputs steps reach r.steps r.cpu (held o) (Some x) = subst (AheadIs s.inputs steps reach r.steps r.cpu (held o)) e d.leads.ahead in
+          told (reaches_stop s.limit k.reached (omega (arith, stops.0, room_ahead room a)) (not_full e, stops.1)) (counted k i j) k.lent k.logged
 
 -- the call that these are the steps of
-pub accepted_call : (s : Settings) (m : Lh5801) (l : Memory) {r : Answer} {n : Memory} {q : Pages} {lent : Bool} {before now : BusLog}
+pub accepted_call : (s : Settings) (m : Lh5801) (l : Memory) {r : Answer} {n : Memory} {q : Pages} {is_lent : Bool} {before now : BusLog}
     → not_accepted s m (held l) ≡ None → q ≡ held n
-    → AnswersIn (run_of s.limit s.inputs (free_if lent before) m (held l)) l r n lent before now
-    → CallAnswers (call_of s (free_if lent before) m (held l)) r q lent before now
-accepted_call s m l {lent = lent} {before = before} h w a =
-    rw (call_run s (free_if lent before) m (held l) (accepted_by s m (held l) h))
+    → AnswersIn (run_of s.limit s.inputs (free_if is_lent before) m (held l)) l r n is_lent before now
+    → CallAnswers (call_of s (free_if is_lent before) m (held l)) r q is_lent before now
+accepted_call s m l {is_lent = is_lent} {before = before} h w a =
+    rw (call_run s (free_if is_lent before) m (held l) (accepted_by s m (held l) h))
     (record { answers = record { answer = a.answers.answer; pages = w ∙ a.answers.pages }; logged = a.logged })

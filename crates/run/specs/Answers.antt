@@ -13,14 +13,14 @@ pub record Answers (o : CallResult) (r : Answer) (after : Pages) : Type 0 where
 
 -- how many entries of a log are free, if it is lent
 abbrev pub free_if : Bool → BusLog → Option ℕ
-free_if lent log = free_in (lent_if lent (held_log log))
+free_if is_lent log = free_in (lent_if is_lent (held_log log))
 
 -- a log to which these accesses were appended, if it is lent, and nothing else changed: its list is the same one
-pub record Logged (lent : Bool) (l : List Access) (before after : BusLog) : Type 0 where
-  pub log : held_log after ≡ appended_if lent (held_log before) l
-  pub list : after.entries.ghost_name ≡ before.entries.ghost_name
+pub record Logged (is_lent : Bool) (l : List Access) (before after : BusLog) : Type 0 where
+  pub log : held_log after ≡ appended_if is_lent (held_log before) l
+  pub lent : after.entries.ghost_name ≡ before.entries.ghost_name
 
--- the answer and the pages, and a log that is lent: the accesses of the completed steps are appended to it
-pub record CallAnswers (o : CallResult) (r : Answer) (after : Pages) (lent : Bool) (before now : BusLog) : Type 0 where
+-- the answer, the pages and the log: to one that is lent the accesses of the completed steps are appended, and one that is not is as it was
+pub record CallAnswers (o : CallResult) (r : Answer) (after : Pages) (is_lent : Bool) (before now : BusLog) : Type 0 where
   pub answers : Answers o r after
-  pub logged : Logged lent o.bus before now
+  pub logged : Logged is_lent o.bus before now

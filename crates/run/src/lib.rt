@@ -9,7 +9,7 @@ ghost use Rattle.run.specs.Acceptance.{end_number, end_byte, not_accepted};
 ghost use Rattle.run.specs.BusLog.{held_log, free_of, log_full};
 ghost use Rattle.run.specs.Run.{run_of, call_of};
 ghost use Rattle.run.specs.Answers.{free_if, CallAnswers};
-ghost use Rattle.run.specs.Code.Leads.{unmoved_of, LeadsIn, LooksAhead};
+ghost use Rattle.run.specs.Code.Leads.{unmoved_of, LeadsIn, NotesAhead};
 ghost use Rattle.run.specs.Code.States.{answer_of, states_between, AnswersIn};
 
 use arithmetic::record::Lh5801;
@@ -191,47 +191,47 @@ fn log_full(log: &BusLog) -> bool
     length < log.used || length - log.used < 7
 }
 
-// The look before a stretch of steps, where so many of the call are completed: how many may be after it, and nothing where the log is full. Without a log
-// they go up to the limit. With one the next step is done alone, and its accesses are appended, none if it will stop.
-fn look_ahead(
+// Before a stretch of steps, where so many of the call are done: how many may be done after the stretch, or nothing where the log is full. Without a log
+// they go up to the limit. With one the stretch is the next step alone, and its accesses are appended, none if it will stop.
+fn note_ahead(
     cpu: Lh5801,
     view: View,
-    lent: bool,
+    is_lent: bool,
     log: &mut BusLog,
+    done: u32,
     limit: u32,
-    steps: u32,
 ) -> Option<u32>
-    requires { steps < limit }
-    ensures { LooksAhead cpu (as_shared view) limit steps lent result log.old log.new }
+    requires { done < limit }
+    ensures { NotesAhead cpu (as_shared view) done limit is_lent result log.old log.new }
 {
-    if !lent {
+    if !is_lent {
         return Some(limit);
     }
     if log_full(log) {
         return None;
     }
     bus::note_step(cpu, view, log);
-    Some(steps + 1)
+    Some(done + 1)
 }
 
 // Steps up to the limit, to a full log or to the first that stops. How many steps a stretch completes is known after it, so that no range counts them.
-// One function with the entry: as a call it would hand the record over in memory (docs/TRIED.md).
+// Always inline, and so is `run`: as a call of its own it would be handed the record in memory (docs/TRIED.md).
 #[inline(always)]
 fn steps_of(
     cpu: Lh5801,
     memory: &mut Memory,
-    lent: bool,
+    is_lent: bool,
     log: &mut BusLog,
     settings: Settings,
 ) -> Answer
     requires { settings.limit ≤ 1000000 }
-    ensures { AnswersIn (run_of settings.limit settings.inputs (free_if lent log.old) cpu (at_entry memory)) memory.entry.now result memory.exit.now lent log.old log.new }
+    ensures { AnswersIn (run_of settings.limit settings.inputs (free_if is_lent log.old) cpu (at_entry memory)) memory.entry.now result memory.exit.now is_lent log.old log.new }
 {
     let first = cpu.ticks;
     let mut current = cpu;
     let mut steps = 0;
     while steps < settings.limit {
-        let Some(limit) = look_ahead(current, memory.view(), lent, log, settings.limit, steps)
+        let Some(limit) = note_ahead(current, memory.view(), is_lent, log, steps, settings.limit)
         else {
             return answered(current, first, steps, End::LogFull);
         };
@@ -272,11 +272,11 @@ pub fn run(
     cpu: Lh5801,
     page0: &mut [u8],
     page1: &mut [u8],
-    lent: bool,
+    is_lent: bool,
     log: &mut BusLog,
     settings: Settings,
 ) -> Answer
-    ensures { CallAnswers (call_of settings (free_if lent log.old) cpu (pages page0.old page1.old)) result (pages page0.new page1.new) lent log.old log.new }
+    ensures { CallAnswers (call_of settings (free_if is_lent log.old) cpu (pages page0.old page1.old)) result (pages page0.new page1.new) is_lent log.old log.new }
 {
     let mut memory = Memory { page0, page1 };
     if let Some(end) = not_accepted(cpu, &memory, settings) {
@@ -287,5 +287,5 @@ pub fn run(
             cpu,
         };
     }
-    steps_of(cpu, &mut memory, lent, log, settings)
+    steps_of(cpu, &mut memory, is_lent, log, settings)
 }

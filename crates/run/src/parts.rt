@@ -22,18 +22,18 @@ pub fn run_parts(
     len0: usize,
     page1: &mut [u8],
     len1: usize,
-    lent: bool,
+    is_lent: bool,
     log: &mut BusLog,
     settings: Settings,
 ) -> Answer
     requires { (len0 ≤ length page0.old) × (len1 ≤ length page1.old) }
-    ensures { RunParts settings lent log.old cpu page0.old len0 page1.old len1 result page0.new page1.new log.new }
+    ensures { RunParts settings is_lent log.old cpu page0.old len0 page1.old len1 result page0.new page1.new log.new }
 {
     crate::run(
         cpu,
         &mut page0[..len0],
         &mut page1[..len1],
-        lent,
+        is_lent,
         log,
         settings,
     )

@@ -1,4 +1,4 @@
--- How the code is built, and need not be believed (proofs/Loop.antt ties it): what a stretch of a call's steps comes to, which the code takes as one piece.
+-- How the code is built, and need not be believed (proofs/Loop.antt and proofs/Stretches.antt tie it): what a stretch of a call's steps comes to, which the code takes as one piece.
 use Rattle.std.specs.Prelude.{◌≡◌, ℕ, Bool, true, false, ◌+◌, ◌<◌, ◌≤◌, List, Option, None, Some}
 use Rattle.arithmetic.specs.declared.record.Lh5801.{Lh5801}
 use Rattle.arithmetic.specs.Record.{with_ir1, with_is_timer_reached}
@@ -42,16 +42,16 @@ pub record LeadsIn (s : Settings) (done : ℕ) (m : Lh5801) (l : Memory) (r : Le
   pub leads : Leads s.inputs done s.limit m (held l) r (held n)
   pub lent : SameLent l n
 
--- what the look before a stretch finds, where so many steps of a call are completed
-pub data LooksAhead (m : Lh5801) (p : Pages) (limit steps : ℕ) : Bool → Option ℕ → BusLog → BusLog → Type 0 where
-  -- without a log the stretch may go up to the limit
-  unlent : {log : BusLog} → LooksAhead m p limit steps false (Some limit) log log
+-- how far the next stretch may go, where so many steps of a call are done, and what was appended to the log before it
+pub data NotesAhead (m : Lh5801) (p : Pages) (done limit : ℕ) : Bool → Option ℕ → BusLog → BusLog → Type 0 where
+  -- without a log it may go up to the limit
+  no_log : {log : BusLog} → NotesAhead m p done limit false (Some limit) log log
   -- the log is full
-  full : {log : BusLog} → Full (free_if true log) → LooksAhead m p limit steps true None log log
+  full : {log : BusLog} → Full (free_if true log) → NotesAhead m p done limit true None log log
   -- it is not: the accesses of the coming step are appended, none if it will stop, and the stretch is that step
-  noted : {before after : BusLog} → NotFull (free_if true before)
+  has_room : {before after : BusLog} → NotFull (free_if true before)
       → ((inputs : Inputs) → Logged true (completed_accesses (one_step inputs m p)) before after)
-      → LooksAhead m p limit steps true (Some (steps + 1)) before after
+      → NotesAhead m p done limit true (Some (done + 1)) before after
 
 -- IR1 and timer reached as they were before
 unfoldable pub unmoved_of : Lh5801 → Lh5801 → Lh5801

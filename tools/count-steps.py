@@ -13,15 +13,16 @@ BENCH = os.path.join("..", "shared", "bench")
 FILES = ("lop", "dca", "mixed")
 HEAD = """#include "lh5801.h"
 static uint8_t page0[] = {%s}, page1[] = {%s};
+enum { LENGTH0 = %d, LENGTH1 = %d };
 static uint64_t words[LH5801_WORDS] = {%s};
 static struct lh5801_settings settings = {.limit = %d, .keyboard = %d, .idle = %d};
 """
 LENT = "static uint32_t entries[80000];\n"
-# What is counted; the call has to end with 0.
+# What is counted; the last call has to end with 0.
 BODY = """__attribute__((noinline)) void measured(void) { %s }
 int main(void) { %s measured(); return words[LH5801_NUMBER] != LH5801_ALL_STEPS; }
 """
-RUN = "lh5801_run_with(words, page0, sizeof page0, page1, sizeof page1, &settings);"
+RUN = "lh5801_run_with(words, page0, LENGTH0, page1, LENGTH1, &settings);"
 
 
 def campaign(data):
@@ -47,10 +48,11 @@ def campaign(data):
     return numbers, pages
 
 
-def program(pages, words, limit, keyboard, idle, lent, counted, before=""):
+def program(pages, words, limit, keyboard, idle, lent, work, before=""):
+    """A program that does the work. C has no empty array: an empty page has a byte that is not lent."""
     listed = [",".join(map(str, page)) or "0" for page in pages]
-    head = HEAD % (*listed, ",".join(f"{it}ull" for it in words), limit, keyboard, idle)
-    return head + LENT * lent + BODY % (counted, before)
+    head = HEAD % (*listed, *map(len, pages), ",".join(f"{it}ull" for it in words), limit, keyboard, idle)
+    return head + LENT * lent + BODY % (work, before)
 
 
 def programs():
@@ -64,12 +66,15 @@ def programs():
         lent = "settings.log = entries; settings.log_length = 80000;"
         made[f"{name} logged"] = (program(pages, numbers[:12], 10_000, numbers[12], 0, True, ten, lent), 100_000)
     lop = [b"\x88\x02" + bytes(14), b""]
-    one = "for (int i = 0; i < 10000; i++) { words[LH5801_U] = 255; lh5801_run(words, page0, sizeof page0, page1, sizeof page1, 0, 1); }"
-    flags = lambda flags: [0] * 8 + [flags] + [0] * 3
-    made["one"] = (program(lop, flags(8), 1, 0, 0, False, one), 10_000)
-    made["off"] = (program(lop, flags(0), 100_000, 0, 0, False, RUN), 100_000)
+    one = "for (int i = 0; i < 10000; i++) { words[LH5801_U] = 255; lh5801_run(words, page0, LENGTH0, page1, LENGTH1, 0, 1); }"
+
+    def record(flags):
+        return [0] * 8 + [flags] + [0] * 3
+
+    made["one"] = (program(lop, record(8), 1, 0, 0, False, one), 10_000)
+    made["off"] = (program(lop, record(0), 100_000, 0, 0, False, RUN), 100_000)
     for idle in (2, 255):
-        made[f"waiting {idle}"] = (program(lop, flags(9), 100_000, 0, idle, False, RUN), 100_000)
+        made[f"waiting {idle}"] = (program(lop, record(9), 100_000, 0, idle, False, RUN), 100_000)
     return made
 
 

@@ -82,9 +82,9 @@ mod tests {
     #[test]
     fn another_function_is_found() {
         let with = |line: &str| entry_alone(&symbols(&format!("0000 T lh5801_call\n{line}\n")));
-        assert!(with("0000 t bus::note_at"));
+        assert!(with("0000 t bus::note_step"));
         assert!(!with("0000 t run::steps_of"));
-        assert!(!with("0000 T bus::note_at"));
+        assert!(!with("0000 T bus::note_step"));
         assert!(!entry_alone(&symbols("0000 t lh5801_call\n")));
     }
 }

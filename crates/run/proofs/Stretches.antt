@@ -1,5 +1,5 @@
 -- The loop over stretches of steps, with a log that may be lent: what it keeps, and how a stretch, a stop, a full log and the limit go on from it.
-use Rattle.std.proofs.Common.{◌≡◌, ℕ, ◌+◌, ◌<◌, ◌≤◌, Bool, true, List, [], ◌++◌, sym, refl, ap, ◌∙◌, append-nil, arith, subst}
+use Rattle.std.proofs.Common.{◌≡◌, ℕ, ◌+◌, ◌<◌, ◌≤◌, Bool, true, false, List, [], ◌++◌, sym, refl, ap, ◌∙◌, append-nil, arith, subst}
 use Rattle.std.specs.Prelude.{Option, None, Some}
 use Rattle.arithmetic.specs.declared.record.Lh5801.{Lh5801}
 use Rattle.execution.specs.declared.Inputs.{Inputs}
@@ -15,7 +15,7 @@ use Rattle.run.specs.declared.End.{End}
 use Rattle.run.specs.declared.End.TheVariants.{AllSteps, LogFull, Step}
 use Rattle.run.specs.declared.Led.{Led}
 use Rattle.run.specs.declared.Settings.{Settings}
-use Rattle.run.specs.BusLog.{free_in, free_after, Full, NotFull}
+use Rattle.run.specs.BusLog.{held_log, free_of, free_in, free_after, log_full, Full, NotFull}
 use Rattle.run.specs.Acceptance.{not_accepted}
 use Rattle.run.specs.Run.{CallResult, call_result, one_step, run_of, call_of, settings}
 use Rattle.run.specs.Reaches.{Reaches, start, next}
@@ -26,6 +26,21 @@ use Rattle.run.specs.Code.States.{answer_of, states_between, AnswersIn}
 use Rattle.run.proofs.BusLog.{after_none, after_append, logged_none, logged_then, logged_free}
 use Rattle.run.proofs.Acceptance.{call_run, accepted_by}
 use Rattle.run.proofs.Ends.{reaches_run, reaches_full, reaches_stop, reaches_all, reaches_none, reaches_logged, reaches_ticks, reaches_most}
+
+-- how far the next stretch may go, by the code's tests
+module _ (m : Lh5801) (p : Pages) (done limit : ℕ) {is_lent : Bool} {log : BusLog} where
+  pub ahead_no_log : is_lent ≡ false → NotesAhead m p done limit is_lent (Some limit) log log
+  ahead_no_log e = rw e no_log
+
+  pub ahead_full : is_lent ≡ true → log_full (Some (free_of (held_log log))) ≡ true → NotesAhead m p done limit is_lent None log log
+  unfolding free_in
+  ahead_full e f = rw e (full f)
+
+  pub ahead_room : {after : BusLog} → is_lent ≡ true → log_full (Some (free_of (held_log log))) ≡ false
+      → ((inputs : Inputs) → Logged true (completed_accesses (one_step inputs m p)) log after)
+      → NotesAhead m p done limit is_lent (Some (done + 1)) log after
+  unfolding free_in
+  ahead_room e f g = rw e (has_room f g)
 
 -- so many completed steps of the call have led here, and their accesses were appended, if a log is lent
 pub record Stretched (s : Settings) (is_lent : Bool) (before : BusLog) (first : Lh5801) (l : Memory) (steps : ℕ) (m : Lh5801) (n : Memory) (now : BusLog) : Type 0 where

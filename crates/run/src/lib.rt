@@ -1,7 +1,7 @@
 //! The run call.
 #![tactic(auto)]
 
-ghost use Rattle.std.specs.Prelude.{◌≡◌, ◌+◌, ◌<◌, ◌≤◌, true, false};
+ghost use Rattle.std.specs.Prelude.{◌≡◌, ◌<◌, ◌≤◌, true, false};
 ghost use Rattle.pages.specs.Pages.{pages};
 ghost use Rattle.pages.specs.Contract.{at_entry, held, as_shared};
 ghost use Rattle.execution.specs.Code.Due.{due_of};
@@ -193,6 +193,7 @@ fn log_full(log: &BusLog) -> bool
 
 // Before a stretch of steps, where so many of the call are done: how many may be done after the stretch, or nothing where the log is full. Without a log
 // they go up to the limit. With one the stretch is the next step alone, and its accesses are appended, none if it will stop.
+#[tactic(auto, using(crate::proofs::Stretches::ahead_no_log, crate::proofs::Stretches::ahead_full))]
 fn note_ahead(
     cpu: Lh5801,
     view: View,

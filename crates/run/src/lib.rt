@@ -129,17 +129,15 @@ fn instructions(cpu: Lh5801, memory: &mut Memory, settings: Settings, done: u32)
                 };
             }
             Err(stop) => {
-                // The step that stops is undone whole: timer reached has not moved.
-                if steps == done {
-                    return Led {
-                        steps,
-                        cpu: unmoved(current, cpu),
-                        stop: Some(stop),
-                    };
-                }
+                // The step that stops is undone whole: before the first, timer reached has not moved.
+                let cpu = if steps == done {
+                    unmoved(current, cpu)
+                } else {
+                    current
+                };
                 return Led {
                     steps,
-                    cpu: current,
+                    cpu,
                     stop: Some(stop),
                 };
             }

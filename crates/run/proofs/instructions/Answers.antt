@@ -23,10 +23,10 @@ returns-in-Ok-Completed c =
 
 pub returns-then-steps-done : goal.returns-then-steps-done
 returns-then-steps-done c =
-    executing_none c.loop-steps.invariant c.loop-steps-test.true c.requires.0 c.reached-current.ensures c.if-steps-done.true c.unmoved.ensures (executed_step _ _ (rw c.in-Err.is at c.instruction.ensures.0))
+    executing_none c.loop-steps.invariant c.loop-steps-test.true c.requires.0 c.reached-current.ensures c.if-steps-done.true c.unmoved-cpu.ensures (executed_step _ _ (rw c.in-Err.is at c.instruction.ensures.0))
 
-pub returns-in-Err : goal.returns-in-Err
-returns-in-Err c =
+pub returns-else-steps-done : goal.returns-else-steps-done
+returns-else-steps-done c =
     executing_stops c.loop-steps.invariant c.loop-steps-test.true c.requires.0 c.reached-current.ensures c.if-steps-done.false (executed_step _ _ (rw c.in-Err.is at c.instruction.ensures.0))
 
 pub returns : goal.returns

@@ -165,13 +165,13 @@ pub const SPEED_HELP: &str = "\
 oracle speed [--rounds N] [--bench DIR] [--least PERCENT]
 
 Checks that lh5801_call is the only function of the archive besides those of a log, as `oracle
-symbols` does (status 1 where it is not), and measures three ways to do the same work, in interleaved rounds: the original's
-bare step_cpu loop, the original under a run call with its stop checks, and the port. The work is
-that of campaign files with the idle figure 0, whole and cut into calls, and then waiting steps; all
-of it without a log. At the end come the same files with a log lent to the port, beside the
-original's bare steps over a memory that records the same entries. Prints the median with the least
-and the greatest, and the ratios of the medians, with those of the least costs behind them; above 1
-the port is faster. It wants the feature `port`.
+symbols` does (status 1 where it is not), and measures three ways to do the same work, in interleaved
+rounds: the original's bare step_cpu loop, the original under a run call with its stop checks, and
+the port. The work is that of campaign files with the idle figure 0, whole and cut into calls, and
+then waiting steps; all of it without a log. At the end come the same files with a log lent to the
+port, beside the original's bare steps over a memory that records the same entries. Prints the median
+with the least and the greatest, and the ratios of the medians, with those of the least costs behind
+them; above 1 the port is faster. It wants the feature `port`.
 
 --rounds N        rounds that count; 15 without it
 --bench DIR       the folder of lop.bin, dca.bin and mixed.bin; ../../shared/bench without it
@@ -195,7 +195,8 @@ pub const SYMBOLS_HELP: &str = "\
 oracle symbols [ARCHIVE]
 
 Runs nm on the port's archive and checks that lh5801_call is its only function, exported or not,
-besides those of the crate bus, which only a call with a log takes. Without ARCHIVE it is the one that this oracle was built for.
+besides those of the crate bus, which only a call with a log takes. Without ARCHIVE it is the one
+that this oracle was built for.
 ";
 
 pub const LIST_HELP: &str = "\

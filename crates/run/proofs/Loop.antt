@@ -1,6 +1,6 @@
 -- What the loop over instructions keeps, and how a step, a stop and the limit go on from it. No log is looked at here.
 use Rattle.std.proofs.Common.{◌≡◌, ℕ, ◌+◌, ◌<◌, ◌≤◌, true, List, [], ◌++◌, sym, refl, ap, ◌∙◌, subst, true≢false, arith}
-use Rattle.std.specs.Prelude.{None, Some, Result, Ok, Err}
+use Rattle.std.specs.Prelude.{Option, None, Some, Result, Ok, Err}
 use Rattle.arithmetic.specs.declared.record.Lh5801.{Lh5801}
 use Rattle.execution.specs.declared.Inputs.{Inputs}
 use Rattle.pages.specs.declared.Memory.{Memory}
@@ -21,16 +21,16 @@ use Rattle.run.specs.Reaches.{Reaches, start}
 use Rattle.run.specs.Code.Leads.{Leads, LeadsIn, led, unmoved_of}
 use Rattle.run.proofs.Ends.{reaches_then, reaches_none, reaches_from}
 
--- after so many completed steps: what they have led to
-pub record Going (inputs : Inputs) (limit : ℕ) (first : Lh5801) (from : Pages) (steps : ℕ) (m : Lh5801) (p : Pages) : Type 0 where
+-- after so many completed steps: what they have led to, where so many entries of a log were free, or there is none
+pub record Going (inputs : Inputs) (limit : ℕ) (free : Option ℕ) (first : Lh5801) (from : Pages) (steps : ℕ) (m : Lh5801) (p : Pages) : Type 0 where
   pub within : steps ≤ limit
   pub states : ℕ
   pub bus : List Access
-  pub reached : Reaches inputs None steps first from m p states bus
+  pub reached : Reaches inputs free steps first from m p states bus
 
--- the same in a memory that holds the same lent pages
+-- the same without a log, in a memory that holds the same lent pages
 pub record Kept (s : Settings) (first : Lh5801) (l : Memory) (steps : ℕ) (m : Lh5801) (n : Memory) : Type 0 where
-  pub going : Going s.inputs s.limit first (held l) steps m (held n)
+  pub going : Going s.inputs s.limit None first (held l) steps m (held n)
   pub lent : SameLent l n
 
 -- the same in the loop over instructions, where one is due: so many steps of the call were done before the loop
@@ -41,8 +41,8 @@ pub record Executing (s : Settings) (done : ℕ) (first : Lh5801) (l : Memory) (
   pub kept : Kept s first l more m n
   pub ready : Ready m
 
-pub at_start_lem : (inputs : Inputs) (limit : ℕ) (m : Lh5801) (p : Pages) → Going inputs limit m p 0 m p
-at_start_lem inputs limit m p =
+abbrev pub at_start_lem : (inputs : Inputs) (limit : ℕ) (free : Option ℕ) (m : Lh5801) (p : Pages) → Going inputs limit free m p 0 m p
+at_start_lem inputs limit free m p =
     record { within = omega arith; states = 0; bus = []; reached = start }
 
 -- what a step of the code tells of the definition's, on the pages
@@ -70,8 +70,8 @@ stop_step {inputs} {m} {p} {s = s} d =
     let e : (one_step inputs m p).answer ≡ stopped s = stop_outcome (one_step inputs m p).answer d.value in
     (e, sym d.pages ∙ (stop_no_write m inputs p s e).1)
 
-module _ {inputs : Inputs} {limit : ℕ} {first : Lh5801} {from : Pages} {steps : ℕ} {m : Lh5801} {p : Pages} (g : Going inputs limit first from steps m p) where
-  after_did : (s : ℕ) (kind : Kind) (k : Lh5801) → steps < limit → (one_step inputs m p).answer ≡ did k s kind → Going inputs limit first from (steps + 1) k (one_step inputs m p).pages
+module _ {inputs : Inputs} {limit : ℕ} {first : Lh5801} {from : Pages} {steps : ℕ} {m : Lh5801} {p : Pages} (g : Going inputs limit None first from steps m p) where
+  after_did : (s : ℕ) (kind : Kind) (k : Lh5801) → steps < limit → (one_step inputs m p).answer ≡ did k s kind → Going inputs limit None first from (steps + 1) k (one_step inputs m p).pages
   after_did s kind k h e =
       record {
         within = omega arith;
@@ -80,16 +80,16 @@ module _ {inputs : Inputs} {limit : ℕ} {first : Lh5801} {from : Pages} {steps 
         reached = reaches_then g.reached refl e;
       }
 
-  go_on : {k : Lh5801} {q : Pages} → steps < limit → Outcome inputs m p (Ok k) q → Going inputs limit first from (steps + 1) k q
+  go_on : {k : Lh5801} {q : Pages} → steps < limit → Outcome inputs m p (Ok k) q → Going inputs limit None first from (steps + 1) k q
   go_on {q = q} h d =
-      did_outcome (one_step inputs m p).answer (λ k. Going inputs limit first from (steps + 1) k q) d.value
-      (λ s kind k e. subst (Going inputs limit first from (steps + 1) k) d.pages (after_did s kind k h e))
+      did_outcome (one_step inputs m p).answer (λ k. Going inputs limit None first from (steps + 1) k q) d.value
+      (λ s kind k e. subst (Going inputs limit None first from (steps + 1) k) d.pages (after_did s kind k h e))
 
 -- one step is a stretch
 module _ {inputs : Inputs} {done limit : ℕ} {m : Lh5801} {p q : Pages} (room : done < limit) where
   did_leads : {k : Lh5801} → Outcome inputs m p (Ok k) q → Leads inputs done limit m p (led (done + 1) k None) q
   did_leads d =
-      let g : Going inputs 1 m p 1 _ q = go_on (at_start_lem inputs 1 m p) (omega arith) d in
+      let g : Going inputs 1 None m p 1 _ q = go_on (at_start_lem inputs 1 None m p) (omega arith) d in
       record { more = 1; steps = refl; within = omega arith; states = g.states; bus = g.bus; reached = g.reached; ahead = omega arith }
 
   stop_leads : {s : Stop} → Outcome inputs m p (Err s) q → Leads inputs done limit m p (led done m (Some s)) q
@@ -123,7 +123,7 @@ executing_start {s} m {l = l} due room moved =
       more = 0;
       steps_are = omega arith;
       within = omega (arith, room);
-      kept = record { going = at_start_lem s.inputs s.limit (reached_of m) (held l); lent = lent_same };
+      kept = record { going = at_start_lem s.inputs s.limit None (reached_of m) (held l); lent = lent_same };
       ready = reached_ready m due;
     })
 

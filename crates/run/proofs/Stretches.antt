@@ -25,6 +25,7 @@ use Rattle.run.specs.Code.Leads.{AheadIs, Leads, LeadsIn, NotesAhead, no_log, fu
 use Rattle.run.specs.Code.States.{answer_of, states_between, AnswersIn}
 use Rattle.run.proofs.BusLog.{after_none, after_append, logged_none, logged_then, logged_free}
 use Rattle.run.proofs.Acceptance.{call_run, accepted_by}
+use Rattle.run.proofs.Loop.{Going, at_start_lem}
 use Rattle.run.proofs.Ends.{reaches_run, reaches_full, reaches_stop, reaches_all, reaches_none, reaches_logged, reaches_ticks, reaches_most}
 
 -- how far the next stretch may go, by the code's tests
@@ -44,15 +45,13 @@ module _ (m : Lh5801) (p : Pages) (done limit : ℕ) {is_lent : Bool} {log : Bus
 
 -- so many completed steps of the call have led here, and their accesses were appended, if a log is lent
 pub record Stretched (s : Settings) (is_lent : Bool) (before : BusLog) (first : Lh5801) (l : Memory) (steps : ℕ) (m : Lh5801) (n : Memory) (now : BusLog) : Type 0 where
-  pub within : steps ≤ s.limit
-  pub states : ℕ
-  pub bus : List Access
-  pub reached : Reaches s.inputs (free_if is_lent before) steps first (held l) m (held n) states bus
+  pub going : Going s.inputs s.limit (free_if is_lent before) first (held l) steps m (held n)
   pub lent : SameLent l n
-  pub logged : Logged is_lent bus before now
+  pub logged : Logged is_lent going.bus before now
 
 pub stretched_start : {s : Settings} {is_lent : Bool} {log : BusLog} {m : Lh5801} {l : Memory} → Stretched s is_lent log m l 0 m l log
-stretched_start = record { within = omega arith; states = 0; bus = []; reached = start; lent = lent_same; logged = logged_none }
+stretched_start {s} {is_lent} {log} {m} {l} =
+    record { going = at_start_lem s.inputs s.limit (free_if is_lent log) m (held l); lent = lent_same; logged = logged_none }
 
 -- what is told and left, from what the call comes to
 told : {o : CallResult} {l n : Memory} {e : End} {j t u : ℕ} {k : Lh5801} {bus : List Access} {is_lent : Bool} {before now : BusLog}
@@ -111,8 +110,8 @@ module _ {done limit : ℕ} {m : Lh5801} {p : Pages} {inputs : Inputs} {r : Led}
 
 -- the states so far, from the ticks
 counted : {s : Settings} {is_lent : Bool} {before : BusLog} {first : Lh5801} {l : Memory} {steps : ℕ} {m : Lh5801} {n : Memory} {now : BusLog}
-    (g : Stretched s is_lent before first l steps m n now) → s.inputs.idle ≤ 255 → s.limit ≤ 1_000_000 → states_between first.ticks m.ticks ≡ g.states
-counted g i j = omega (arith, reaches_ticks g.reached, reaches_most i g.reached, g.within)
+    (g : Stretched s is_lent before first l steps m n now) → s.inputs.idle ≤ 255 → s.limit ≤ 1_000_000 → states_between first.ticks m.ticks ≡ g.going.states
+counted g i j = omega (arith, reaches_ticks g.going.reached, reaches_most i g.going.reached, g.going.within)
 
 module _ {s : Settings} {is_lent : Bool} {before : BusLog} {first : Lh5801} {l : Memory} {steps : ℕ} {m : Lh5801} {n : Memory} {now : BusLog}
     (g : Stretched s is_lent before first l steps m n now) where
@@ -123,8 +122,8 @@ module _ {s : Settings} {is_lent : Bool} {before : BusLog} {first : Lh5801} {l :
   pub stretched_all : s.limit ≤ steps → s.inputs.idle ≤ 255 → s.limit ≤ 1_000_000
       → AnswersIn call l (answer_of AllSteps steps (states_between first.ticks m.ticks) m) n is_lent before now
   stretched_all h i j =
-      let e : s.limit ≡ steps = omega (arith, h, g.within) in
-      told (ap (λ (k : ℕ). run_of k s.inputs (free_if is_lent before) first (held l)) e ∙ reaches_run g.reached) (counted g i j) g.lent g.logged
+      let e : s.limit ≡ steps = omega (arith, h, g.going.within) in
+      told (ap (λ (k : ℕ). run_of k s.inputs (free_if is_lent before) first (held l)) e ∙ reaches_run g.going.reached) (counted g i j) g.lent g.logged
 
   module _ (room : steps < s.limit) {after : BusLog} where
     -- the log is full
@@ -132,7 +131,7 @@ module _ {s : Settings} {is_lent : Bool} {before : BusLog} {first : Lh5801} {l :
         → AnswersIn call l (answer_of LogFull steps (states_between first.ticks m.ticks) m) n is_lent before after
     stretched_full a i j =
         let f = full_ahead a in
-        rw f.1 (told (reaches_full s.limit g.reached room (subst Full (logged_free g.logged) f.0)) (counted g i j) g.lent g.logged)
+        rw f.1 (told (reaches_full s.limit g.going.reached room (subst Full (logged_free g.logged) f.0)) (counted g i j) g.lent g.logged)
 
     module _ {reach : ℕ} (a : NotesAhead m (held n) steps s.limit is_lent (Some reach) now after) {r : Led} {o : Memory}
         (d : LeadsIn (settings s.inputs reach) steps m n r o) where
@@ -141,16 +140,18 @@ module _ {s : Settings} {is_lent : Bool} {before : BusLog} {first : Lh5801} {l :
       stretched_next =
           let next = stretch_reached d.leads a in
           record {
-            within = omega (arith, d.leads.within, room_ahead room a);
-            states = g.states + d.leads.states;
-            bus = g.bus ++ d.leads.bus;
-            reached = rw d.leads.steps (reaches_all g.reached (rw (logged_free g.logged) at next.0));
+            going = record {
+              within = omega (arith, d.leads.within, room_ahead room a);
+              states = g.going.states + d.leads.states;
+              bus = g.going.bus ++ d.leads.bus;
+              reached = rw d.leads.steps (reaches_all g.going.reached (rw (logged_free g.logged) at next.0));
+            };
             lent = lent_then g.lent d.lent;
             logged = logged_then g.logged next.1;
           }
 
-      not_full : {x : Stop} → r.stop ≡ Some x → NotFull (free_after (free_if is_lent before) (g.bus ++ d.leads.bus))
-      not_full e = rw (after_append (free_if is_lent before) g.bus d.leads.bus) (rw (logged_free g.logged) at (not_full_ahead d.leads a e))
+      not_full : {x : Stop} → r.stop ≡ Some x → NotFull (free_after (free_if is_lent before) (g.going.bus ++ d.leads.bus))
+      not_full e = rw (after_append (free_if is_lent before) g.going.bus d.leads.bus) (rw (logged_free g.logged) at (not_full_ahead d.leads a e))
 
       -- the next step stops after it
       pub stretched_stop : {x : Stop} → r.stop ≡ Some x → s.inputs.idle ≤ 255 → s.limit ≤ 1_000_000
@@ -159,7 +160,7 @@ module _ {s : Settings} {is_lent : Bool} {before : BusLog} {first : Lh5801} {l :
       stretched_stop {x} e i j =
           let k = stretched_next in
           let stops : AheadIs s.inputs steps reach r.steps r.cpu (held o) (Some x) = subst (AheadIs s.inputs steps reach r.steps r.cpu (held o)) e d.leads.ahead in
-          told (reaches_stop s.limit k.reached (omega (arith, stops.0, room_ahead room a)) (not_full e, stops.1)) (counted k i j) k.lent k.logged
+          told (reaches_stop s.limit k.going.reached (omega (arith, stops.0, room_ahead room a)) (not_full e, stops.1)) (counted k i j) k.lent k.logged
 
 -- the call that these are the steps of
 pub accepted_call : (s : Settings) (m : Lh5801) (l : Memory) {r : Answer} {n : Memory} {q : Pages} {is_lent : Bool} {before now : BusLog}

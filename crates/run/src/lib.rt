@@ -189,8 +189,8 @@ fn log_full(log: &BusLog) -> bool
     length < log.used || length - log.used < 7
 }
 
-// Before a stretch of steps, where so many of the call are done: how many may be done after the stretch, or nothing where the log is full. Without a log
-// they go up to the limit. With one the stretch is the next step alone, and its accesses are appended, none if it will stop.
+// Before a stretch of steps, where so many of the call are done: the limit of the stretch, or nothing where the log is full. Without a log it is the
+// call's. With one the stretch is the next step alone, and that step's accesses are appended, none if it will stop.
 #[tactic(auto, using(crate::proofs::Stretches::ahead_no_log, crate::proofs::Stretches::ahead_full))]
 fn note_ahead(
     cpu: Lh5801,

@@ -1,4 +1,5 @@
--- How the code is built, and need not be believed (proofs/Loop.antt and proofs/Stretches.antt tie it): what a stretch of a call's steps comes to, which the code takes as one piece.
+-- How the code is built, and need not be believed (proofs/Loop.antt and proofs/Stretches.antt tie it): how far a stretch of a call's steps may go, which
+-- the code takes as one piece, and what it comes to.
 use Rattle.std.specs.Prelude.{◌≡◌, ℕ, Bool, true, false, ◌+◌, ◌<◌, ◌≤◌, List, Option, None, Some}
 use Rattle.arithmetic.specs.declared.record.Lh5801.{Lh5801}
 use Rattle.arithmetic.specs.Record.{with_ir1, with_is_timer_reached}
@@ -9,12 +10,12 @@ use Rattle.pages.specs.Prog.{Access}
 use Rattle.pages.specs.Contract.{held, SameLent}
 use Rattle.execution.specs.declared.Stop.{Stop}
 use Rattle.execution.specs.Step.{stopped}
+use Rattle.execution.specs.Completed.{completed_accesses}
+use Rattle.bus.specs.declared.BusLog.{BusLog}
 use Rattle.run.specs.declared.Settings.{Settings}
 use Rattle.run.specs.declared.Led.{Led}
 use Rattle.run.specs.Run.{one_step}
 use Rattle.run.specs.Reaches.{Reaches}
-use Rattle.bus.specs.declared.BusLog.{BusLog}
-use Rattle.execution.specs.Completed.{completed_accesses}
 use Rattle.run.specs.BusLog.{Full, NotFull}
 use Rattle.run.specs.Answers.{free_if, Logged}
 
@@ -42,9 +43,9 @@ pub record LeadsIn (s : Settings) (done : ℕ) (m : Lh5801) (l : Memory) (r : Le
   pub leads : Leads s.inputs done s.limit m (held l) r (held n)
   pub lent : SameLent l n
 
--- how far the next stretch may go, where so many steps of a call are done, and what was appended to the log before it
+-- the limit of the next stretch, where so many steps of a call are done, and what was appended to the log before it
 pub data NotesAhead (m : Lh5801) (p : Pages) (done limit : ℕ) : Bool → Option ℕ → BusLog → BusLog → Type 0 where
-  -- without a log it may go up to the limit
+  -- without a log it is the call's limit
   no_log : {log : BusLog} → NotesAhead m p done limit false (Some limit) log log
   -- the log is full
   full : {log : BusLog} → Full (free_if true log) → NotesAhead m p done limit true None log log

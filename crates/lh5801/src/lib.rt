@@ -1,4 +1,4 @@
-//! The entry that a C or Rust program links: one run call.
+//! The entries that a C or Rust program links: the run call, and the comparison of a log with an analyser's list.
 #![tactic(auto)]
 
 ghost use Rattle.std.specs.Prelude.{◌≡◌};
@@ -7,7 +7,9 @@ ghost use Rattle.execution.specs.Inputs.{inputs_of};
 ghost use Rattle.run.specs.RecordNumbers.{AllWithin};
 ghost use Rattle.run.specs.BusLog.{log_of, free_in, lent_if};
 ghost use Rattle.run.specs.Run.{call_of, settings};
+ghost use Rattle.analyser.specs.Comparison.{comparison_of};
 ghost use Rattle.lh5801.specs.Words.{taken_of, cpu_of, words_of, word_widths, Left};
+ghost use Rattle.lh5801.specs.Compared.{compared_of};
 
 use bus::BusLog;
 use execution::Inputs;
@@ -78,4 +80,24 @@ pub extern "C" fn lh5801_call(
     let answer = run::run(cpu, page0, page1, logged, &mut bus_log, settings);
     *words = words_of(answer);
     bus_log.used
+}
+
+/// A comparison for C, by its number and its place: struct lh5801_comparison.
+#[repr(C)]
+#[derive(Drop)]
+pub struct Compared {
+    pub place: usize,
+    pub number: u8,
+}
+
+/// The writes of a log against an analyser's list. In C: lh5801_compare(log, log_used, analyser, analyser_length).
+#[unsafe(no_mangle)]
+pub extern "C" fn lh5801_compare(log: &[u32], analyser: &[u32]) -> Compared
+    ensures { result ≡ compared_of (comparison_of log.now analyser.now) }
+{
+    let comparison = analyser::compare(log, analyser);
+    Compared {
+        place: comparison.place(),
+        number: comparison.number(),
+    }
 }

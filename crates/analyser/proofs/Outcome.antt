@@ -1,0 +1,75 @@
+-- Laws of the answer by what is left of the two sequences of writes, and of a turn over the log's entries.
+use Rattle.std.proofs.Common.{◌≡◌, ℕ, suc, ◌+◌, ◌<◌, ◌≤◌, Bool, true, false, cond, List, [], ◌∷◌, length, drop, refl, ap, ◌∙◌, arith, add-zero, zero-add, add-one, drop-cons, drop_of_length-le}
+use Rattle.std.specs.Prelude.{slice_index_or}
+use Rattle.pages.specs.Written.{Write}
+use Rattle.analyser.specs.declared.Comparison.{Comparison}
+use Rattle.analyser.specs.declared.Comparison.TheVariants.{Equal, Differ, LogEnded, AnalyserEnded}
+use Rattle.analyser.specs.Comparison.{is_write, write_in, logged, caught, same, common, parted, outcome, comparison_of}
+
+-- the answer where n writes were the same before
+unfoldable pub ahead : ℕ → List Write → List Write → Comparison
+ahead n vs ws = parted (drop (common vs ws) vs) (drop (common vs ws) ws) (n + common vs ws)
+
+-- of all of both
+pub from_start : (vs ws : List Write) → outcome vs ws ≡ ahead 0 vs ws
+unfolding outcome ahead
+from_start vs ws = rw zero-add refl
+
+-- by the first writes of what is left
+ahead_same : (n : ℕ) (v w : Write) (vs ws : List Write) → same v w ≡ true → ahead n (v ∷ vs) (w ∷ ws) ≡ ahead (n + 1) vs ws
+unfolding ahead common
+ahead_same n v w vs ws e =
+    let next : n + suc (common vs ws) ≡ n + 1 + common vs ws = omega arith in
+    rw (e, next) refl
+
+ahead_differ : (n : ℕ) (v w : Write) (vs ws : List Write) → same v w ≡ false → ahead n (v ∷ vs) (w ∷ ws) ≡ Differ n
+unfolding ahead common
+ahead_differ n v w vs ws e = rw (e, add-zero) refl
+
+ahead_log_ended : (n : ℕ) (w : Write) (ws : List Write) → ahead n [] (w ∷ ws) ≡ LogEnded n
+unfolding ahead common
+ahead_log_ended n w ws = rw add-zero refl
+
+ahead_analyser_ended : (n : ℕ) (v : Write) (vs : List Write) → ahead n (v ∷ vs) [] ≡ AnalyserEnded n
+unfolding ahead common
+ahead_analyser_ended n v vs = rw add-zero refl
+
+-- an entry, and those after it
+entry_first : (l : List ℕ) (i : ℕ) → i < length l → drop i l ≡ slice_index_or l i 0 ∷ drop (i + 1) l
+entry_first l i h = rw add-one (drop-cons l i 0 h)
+
+-- a turn over the entry at i of the log, where n writes were the same
+module _ (log analyser : List ℕ) (i n : ℕ) where
+  abbrev left : ℕ → ℕ → Comparison
+  left i n = ahead n (logged (drop i log)) (caught (drop n analyser))
+
+  logged_write : i < length log → is_write (slice_index_or log i 0) ≡ true
+      → logged (drop i log) ≡ write_in (slice_index_or log i 0) ∷ logged (drop (i + 1) log)
+  unfolding logged
+  logged_write h e = rw (entry_first log i h, e) refl
+
+  pub turn_read : i < length log → is_write (slice_index_or log i 0) ≡ false → left i n ≡ left (i + 1) n
+  unfolding logged
+  turn_read h e = rw (entry_first log i h, e) refl
+
+  pub turn_same : i < length log → n < length analyser → is_write (slice_index_or log i 0) ≡ true
+      → same (write_in (slice_index_or log i 0)) (write_in (slice_index_or analyser n 0)) ≡ true
+      → left i n ≡ left (i + 1) (n + 1)
+  turn_same h k e s = rw (logged_write h e, entry_first analyser n k) (ahead_same n _ _ _ _ s)
+
+  pub turn_differ : i < length log → n < length analyser → is_write (slice_index_or log i 0) ≡ true
+      → same (write_in (slice_index_or log i 0)) (write_in (slice_index_or analyser n 0)) ≡ false
+      → left i n ≡ Differ n
+  turn_differ h k e s = rw (logged_write h e, entry_first analyser n k) (ahead_differ n _ _ _ _ s)
+
+  pub turn_ended : i < length log → length analyser ≤ n → is_write (slice_index_or log i 0) ≡ true → left i n ≡ AnalyserEnded n
+  turn_ended h k e = rw (logged_write h e, drop_of_length-le analyser k) (ahead_analyser_ended n _ _)
+
+  -- after the last entry
+  pub end_left : length log ≤ i → n < length analyser → left i n ≡ LogEnded n
+  unfolding logged
+  end_left h k = rw (drop_of_length-le log h, entry_first analyser n k) (ahead_log_ended n _ _)
+
+  pub end_equal : length log ≤ i → length analyser ≤ n → left i n ≡ Equal
+  unfolding logged ahead common
+  end_equal h k = rw (drop_of_length-le log h, drop_of_length-le analyser k) refl

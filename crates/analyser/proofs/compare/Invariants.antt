@@ -1,0 +1,8 @@
+use Rattle.std.proofs.Common.{◌≡◌, ℕ, ◌≤◌, drop, length}
+use Rattle.analyser.specs.Comparison.{logged, caught, comparison_of}
+use Rattle.analyser.proofs.Outcome.{ahead}
+use Rattle.analyser.proofs.compare.Given as goal
+
+-- the answer is that of what is left of both, so many writes on
+abbrev pub invariant-loop-entry : goal.invariant-loop-entry
+invariant-loop-entry l = comparison_of l.log l.analyser ≡ ahead l.same (logged (drop l.entry-index l.log)) (caught (drop l.same l.analyser))

@@ -1,0 +1,71 @@
+-- The writes of our bus log against an analyser's list (document 02, F-3).
+use Rattle.std.specs.Prelude.{◌≡◌, ℕ, zero, suc, ◌+◌, ◌*◌, ◌/◌, ◌%◌, Bool, cond, ◌&&◌, ◌==◌, ◌≢◌, List, [], ◌∷◌, ◌++◌, map, drop, length}
+use Rattle.pages.specs.Written.{Write}
+use Rattle.analyser.specs.declared.Comparison.{Comparison}
+use Rattle.analyser.specs.declared.Comparison.TheVariants.{Equal, Differ, LogEnded, AnalyserEnded}
+
+-- an entry of ours is a write where bit 25 is set
+abbrev pub is_write : ℕ → Bool
+is_write entry = entry / 0x2000000 % 2 == 1
+
+-- the write that an entry is of: bits 24 to 8 are its address, bits 7 to 0 its byte, and no other bit is looked at
+abbrev pub write_in : ℕ → Write
+write_in entry = record { address = entry / 256 % 0x20000; byte = entry % 256 }
+
+-- the writes of our log, in order: "reads between them never matter"
+unfoldable pub logged : List ℕ → List Write
+logged [] = []
+logged (entry ∷ entries) = cond (is_write entry) (write_in entry ∷ logged entries) (logged entries)
+
+-- the writes of the analyser, which "catches writes alone": each of its entries is one
+abbrev pub caught : List ℕ → List Write
+caught entries = map write_in entries
+
+-- the same address and the same byte
+abbrev pub same : Write → Write → Bool
+same v w = v.address == w.address && v.byte == w.byte
+
+-- how many writes two sequences have in common, from the first on
+unfoldable pub common : List Write → List Write → ℕ
+common [] ws = 0
+common (v ∷ vs) [] = 0
+common (v ∷ vs) (w ∷ ws) = cond (same v w) (suc (common vs ws)) 0
+
+-- the answer, by what each has left after the n writes that they have in common
+abbrev pub parted : List Write → List Write → ℕ → Comparison
+parted [] [] n = Equal
+parted [] (w ∷ ws) n = LogEnded n
+parted (v ∷ vs) [] n = AnalyserEnded n
+parted (v ∷ vs) (w ∷ ws) n = Differ n
+
+-- "the first place where they part, counted in writes from 0, with whichever list ended there named"
+unfoldable pub outcome : List Write → List Write → Comparison
+outcome ours theirs =
+    let n : ℕ = common ours theirs in
+    parted (drop n ours) (drop n theirs) n
+
+-- our log, handed in as its used entries, against the analyser's list
+abbrev pub comparison_of : List ℕ → List ℕ → Comparison
+comparison_of log analyser = outcome (logged log) (caught analyser)
+
+-- the number of an answer, and its place, in C
+abbrev pub number_of : Comparison → ℕ
+number_of Equal = 0
+number_of (Differ n) = 1
+number_of (LogEnded n) = 2
+number_of (AnalyserEnded n) = 3
+
+abbrev pub place_of : Comparison → ℕ
+place_of Equal = 0
+place_of (Differ n) = n
+place_of (LogEnded n) = n
+place_of (AnalyserEnded n) = n
+
+-- what an answer says of the two sequences of writes: they are one; or they begin with the same writes, and the next ones differ; or one is the other's
+-- beginning, and there it has ended
+pub data Says (ours theirs : List Write) : Comparison → Type 0 where
+  equal : ours ≡ theirs → Says ours theirs Equal
+  differ : (first : List Write) (v w : Write) (vs ws : List Write) → ours ≡ first ++ v ∷ vs → theirs ≡ first ++ w ∷ ws → v ≢ w
+      → Says ours theirs (Differ (length first))
+  log_ended : (w : Write) (ws : List Write) → theirs ≡ ours ++ w ∷ ws → Says ours theirs (LogEnded (length ours))
+  analyser_ended : (v : Write) (vs : List Write) → ours ≡ theirs ++ v ∷ vs → Says ours theirs (AnalyserEnded (length theirs))

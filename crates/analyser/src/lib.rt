@@ -1,0 +1,75 @@
+//! The writes of a bus log against the list of an analyser that catches writes alone (document 02, F-3).
+#![tactic(auto)]
+
+ghost use Rattle.std.specs.Prelude.{◌≡◌};
+ghost use Rattle.analyser.specs.Comparison.{is_write, write_in, same, comparison_of, number_of, place_of};
+
+/// What the comparison says. A place is counted in writes, from 0: so many writes were the same.
+#[derive(Clone, Copy)]
+pub enum Comparison {
+    Equal,
+    Differ(usize),
+    LogEnded(usize),
+    AnalyserEnded(usize),
+}
+
+impl Comparison {
+    /// The number of the answer in C.
+    pub fn number(self) -> u8
+        ensures { result ≡ number_of self }
+    {
+        match self {
+            Comparison::Equal => 0,
+            Comparison::Differ(_) => 1,
+            Comparison::LogEnded(_) => 2,
+            Comparison::AnalyserEnded(_) => 3,
+        }
+    }
+
+    /// Its place in C.
+    pub fn place(self) -> usize
+        ensures { result ≡ place_of self }
+    {
+        match self {
+            Comparison::Equal => 0,
+            Comparison::Differ(n) | Comparison::LogEnded(n) | Comparison::AnalyserEnded(n) => n,
+        }
+    }
+}
+
+// Bit 25 of an entry of the log marks a write.
+#[tactic(auto, using(crate::proofs::Marks::mark))]
+fn is_write(entry: u32) -> bool
+    ensures { result ≡ is_write entry }
+{
+    entry & 0x2000000 != 0
+}
+
+// Two entries have the same address and byte.
+fn same_write(entry: u32, caught: u32) -> bool
+    ensures { result ≡ same (write_in entry) (write_in caught) }
+{
+    entry % 0x2000000 == caught % 0x2000000
+}
+
+/// The writes of our log, in order, against the analyser's entries.
+#[tactic(auto, using(crate::proofs::Outcome::turn_read, crate::proofs::Outcome::turn_same, crate::proofs::Outcome::turn_differ, crate::proofs::Outcome::turn_ended, crate::proofs::Outcome::end_left, crate::proofs::Outcome::end_equal))]
+pub fn compare(log: &[u32], analyser: &[u32]) -> Comparison
+    ensures { result ≡ comparison_of log.now analyser.now }
+{
+    let mut same = 0;
+    for &entry in log {
+        if is_write(entry) {
+            match analyser.get(same) {
+                None => return Comparison::AnalyserEnded(same),
+                Some(&caught) if same_write(entry, caught) => same += 1,
+                Some(_) => return Comparison::Differ(same),
+            }
+        }
+    }
+    if same < analyser.len() {
+        Comparison::LogEnded(same)
+    } else {
+        Comparison::Equal
+    }
+}

@@ -1,2 +1,4 @@
 pub mod Marks
 pub mod Outcome
+pub mod Answers
+pub mod Unchanged

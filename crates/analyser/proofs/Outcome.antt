@@ -1,10 +1,10 @@
 -- Laws of the answer by what is left of the two sequences of writes, and of a turn over the log's entries.
-use Rattle.std.proofs.Common.{◌≡◌, ℕ, suc, ◌+◌, ◌<◌, ◌≤◌, Bool, true, false, cond, List, [], ◌∷◌, length, drop, refl, ap, ◌∙◌, arith, add-zero, zero-add, add-one, drop-cons, drop_of_length-le}
+use Rattle.std.proofs.Common.{◌≡◌, ℕ, suc, ◌+◌, ◌<◌, ◌≤◌, true, false, List, [], ◌∷◌, length, drop, refl, arith, add-zero, zero-add, add-one, drop-cons, drop_of_length-le}
 use Rattle.std.specs.Prelude.{slice_index_or}
 use Rattle.pages.specs.Written.{Write}
 use Rattle.analyser.specs.declared.Comparison.{Comparison}
 use Rattle.analyser.specs.declared.Comparison.TheVariants.{Equal, Differ, LogEnded, AnalyserEnded}
-use Rattle.analyser.specs.Comparison.{is_write, write_in, logged, caught, same, common, parted, outcome, comparison_of}
+use Rattle.analyser.specs.Comparison.{is_write, write_in, logged, caught, same, common, parted, outcome}
 
 -- the answer where n writes were the same before
 unfoldable pub ahead : ℕ → List Write → List Write → Comparison
@@ -16,21 +16,25 @@ unfolding outcome ahead
 from_start vs ws = rw zero-add refl
 
 -- by the first writes of what is left
-ahead_same : (n : ℕ) (v w : Write) (vs ws : List Write) → same v w ≡ true → ahead n (v ∷ vs) (w ∷ ws) ≡ ahead (n + 1) vs ws
+pub ahead_equal : (n : ℕ) → ahead n [] [] ≡ Equal
+unfolding ahead common
+ahead_equal n = refl
+
+pub ahead_same : (n : ℕ) (v w : Write) (vs ws : List Write) → same v w ≡ true → ahead n (v ∷ vs) (w ∷ ws) ≡ ahead (n + 1) vs ws
 unfolding ahead common
 ahead_same n v w vs ws e =
     let next : n + suc (common vs ws) ≡ n + 1 + common vs ws = omega arith in
     rw (e, next) refl
 
-ahead_differ : (n : ℕ) (v w : Write) (vs ws : List Write) → same v w ≡ false → ahead n (v ∷ vs) (w ∷ ws) ≡ Differ n
+pub ahead_differ : (n : ℕ) (v w : Write) (vs ws : List Write) → same v w ≡ false → ahead n (v ∷ vs) (w ∷ ws) ≡ Differ n
 unfolding ahead common
 ahead_differ n v w vs ws e = rw (e, add-zero) refl
 
-ahead_log_ended : (n : ℕ) (w : Write) (ws : List Write) → ahead n [] (w ∷ ws) ≡ LogEnded n
+pub ahead_log_ended : (n : ℕ) (w : Write) (ws : List Write) → ahead n [] (w ∷ ws) ≡ LogEnded n
 unfolding ahead common
 ahead_log_ended n w ws = rw add-zero refl
 
-ahead_analyser_ended : (n : ℕ) (v : Write) (vs : List Write) → ahead n (v ∷ vs) [] ≡ AnalyserEnded n
+pub ahead_analyser_ended : (n : ℕ) (v : Write) (vs : List Write) → ahead n (v ∷ vs) [] ≡ AnalyserEnded n
 unfolding ahead common
 ahead_analyser_ended n v vs = rw add-zero refl
 
@@ -71,5 +75,5 @@ module _ (log analyser : List ℕ) (i n : ℕ) where
   end_left h k = rw (drop_of_length-le log h, entry_first analyser n k) (ahead_log_ended n _ _)
 
   pub end_equal : length log ≤ i → length analyser ≤ n → left i n ≡ Equal
-  unfolding logged ahead common
-  end_equal h k = rw (drop_of_length-le log h, drop_of_length-le analyser k) refl
+  unfolding logged
+  end_equal h k = rw (drop_of_length-le log h, drop_of_length-le analyser k) (ahead_equal n)

@@ -1,5 +1,5 @@
 -- The writes of our bus log against an analyser's list (document 02, F-3).
-use Rattle.std.specs.Prelude.{◌≡◌, ℕ, zero, suc, ◌+◌, ◌*◌, ◌/◌, ◌%◌, Bool, cond, ◌&&◌, ◌==◌, ◌≢◌, List, [], ◌∷◌, ◌++◌, map, drop, length}
+use Rattle.std.specs.Prelude.{ℕ, suc, ◌/◌, ◌%◌, Bool, cond, ◌&&◌, ◌==◌, List, [], ◌∷◌, map, drop}
 use Rattle.pages.specs.Written.{Write}
 use Rattle.analyser.specs.declared.Comparison.{Comparison}
 use Rattle.analyser.specs.declared.Comparison.TheVariants.{Equal, Differ, LogEnded, AnalyserEnded}
@@ -60,12 +60,3 @@ place_of Equal = 0
 place_of (Differ n) = n
 place_of (LogEnded n) = n
 place_of (AnalyserEnded n) = n
-
--- what an answer says of the two sequences of writes: they are one; or they begin with the same writes, and the next ones differ; or one is the other's
--- beginning, and there it has ended
-pub data Says (ours theirs : List Write) : Comparison → Type 0 where
-  equal : ours ≡ theirs → Says ours theirs Equal
-  differ : (first : List Write) (v w : Write) (vs ws : List Write) → ours ≡ first ++ v ∷ vs → theirs ≡ first ++ w ∷ ws → v ≢ w
-      → Says ours theirs (Differ (length first))
-  log_ended : (w : Write) (ws : List Write) → theirs ≡ ours ++ w ∷ ws → Says ours theirs (LogEnded (length ours))
-  analyser_ended : (v : Write) (vs : List Write) → ours ≡ theirs ++ v ∷ vs → Says ours theirs (AnalyserEnded (length theirs))

@@ -53,7 +53,7 @@ fn same_write(entry: u32, caught: u32) -> bool
 }
 
 /// The writes of our log, in order, against the analyser's entries.
-#[tactic(auto, using(crate::proofs::Outcome::turn_read, crate::proofs::Outcome::turn_same, crate::proofs::Outcome::turn_differ, crate::proofs::Outcome::turn_ended, crate::proofs::Outcome::end_left, crate::proofs::Outcome::end_equal))]
+#[tactic(auto, using(crate::proofs::Outcome::from_start, crate::proofs::Outcome::turn_read, crate::proofs::Outcome::turn_same, crate::proofs::Outcome::turn_differ, crate::proofs::Outcome::turn_ended, crate::proofs::Outcome::end_left, crate::proofs::Outcome::end_equal))]
 pub fn compare(log: &[u32], analyser: &[u32]) -> Comparison
     ensures { result ≡ comparison_of log.now analyser.now }
 {

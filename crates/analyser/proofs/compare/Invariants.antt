@@ -1,4 +1,4 @@
-use Rattle.std.proofs.Common.{◌≡◌, ℕ, ◌≤◌, drop, length}
+use Rattle.std.proofs.Common.{◌≡◌, drop}
 use Rattle.analyser.specs.Comparison.{logged, caught, comparison_of}
 use Rattle.analyser.proofs.Outcome.{ahead}
 use Rattle.analyser.proofs.compare.Given as goal

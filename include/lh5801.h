@@ -1,8 +1,9 @@
 /*
- * lh5801.h: the run call of the static library liblh5801.a, the instruction unit of the LH5801.
+ * lh5801.h: the static library liblh5801.a, the instruction unit of the LH5801: its run call, and the
+ * comparison of its bus log with an analyser's list.
  *
  * "Document 01" is the requirement that the unit is proved against; the numbers below are its own.
- * "F-1" and "F-2" are requests of document 02, which came after it.
+ * "F-1", "F-2" and "F-3" are requests of document 02, which came after it.
  * `rt lib` in crates/lh5801 writes crates/lh5801/out/liblh5801.a for x86-64.
  * Usable from C (C99 and later) and C++.
  *
@@ -11,9 +12,9 @@
  * The run call
  *
  * lh5801_run does document 01's run and nothing else. lh5801_run_with takes the same and the requests
- * of document 02 in a struct of settings. Both are inline functions over lh5801_call, the archive's
- * one exported function: it has a parameter for each setting, and later requests add to it. From
- * another language than C and C++ call lh5801_call.
+ * of document 02 in a struct of settings. Both are inline functions over lh5801_call, which the archive
+ * exports: it has a parameter for each setting, and later requests add to it. From another language
+ * than C and C++ call lh5801_call. The archive's other function is lh5801_compare; see "The comparison".
  *
  * The record
  *
@@ -113,6 +114,28 @@
  * The library has no global data, allocates nothing, calls nothing outside itself and keeps nothing
  * between calls. Calls on different words and pages may run at the same time on different threads.
  * A run may be cut into calls: pass the words that came back, and the used count.
+ *
+ * The comparison
+ *
+ * F-3: lh5801_compare says whether a bus log and the list of an analyser that catches writes alone tell
+ * of the same writes, and where they part. It takes the log's used entries, those before log_used, and
+ * the analyser's entries; it writes to neither, and takes lists of any length, empty ones too.
+ *
+ * - An entry of the log is a write where bit 25 is set; others are reads, and never matter. Bits above
+ *   25 are not looked at. Every entry of the analyser's is a write; its bits above 24 are not looked at.
+ * - Writes are the same where their addresses and bytes are: bits 24 to 0 of the entries.
+ *
+ * The answer is a number and a place. The place is how many writes both have in common from the
+ * beginning, so it counts writes, from 0, and not the log's entries; where they are equal it is 0.
+ *
+ *   number                      what it says
+ *     0  LH5801_EQUAL           both have the same writes in the same order
+ *     1  LH5801_DIFFER          the writes at the place are not the same
+ *     2  LH5801_LOG_ENDED       at the place the log has no write left, and the analyser's list has
+ *     3  LH5801_ANALYSER_ENDED  at the place the analyser's list has ended, and the log has a write
+ *
+ * The pointers are not null and aligned as uint32_t is; for an empty list pass the length 0 and any
+ * such pointer. The lists may overlap.
  */
 #ifndef LH5801_H
 #define LH5801_H
@@ -178,6 +201,14 @@ enum {
     LH5801_LOG_FREE = 7
 };
 
+/* Values of a comparison's number. */
+enum {
+    LH5801_EQUAL = 0,
+    LH5801_DIFFER = 1,
+    LH5801_LOG_ENDED = 2,
+    LH5801_ANALYSER_ENDED = 3
+};
+
 /* What a run call is given besides the record and the pages; see "The settings" above. */
 struct lh5801_settings {
     uint32_t limit;
@@ -189,9 +220,9 @@ struct lh5801_settings {
 };
 
 /*
- * The run call, with a parameter for each setting: the archive's one exported function. `logged` says
- * whether `log` is lent; if not, pass the length 0 and any aligned pointer that is not null, and the
- * list is not touched. The used count after the call is returned: as given, where there is no log.
+ * The run call, with a parameter for each setting. `logged` says whether `log` is lent; if not, pass
+ * the length 0 and any aligned pointer that is not null, and the list is not touched. The used count
+ * after the call is returned: as given, where there is no log.
  */
 size_t lh5801_call(uint64_t words[16], uint8_t *page0, size_t length0, uint8_t *page1,
                    size_t length1, uint32_t limit, uint8_t keyboard, uint8_t idle, bool logged,
@@ -225,6 +256,19 @@ static inline void lh5801_run(uint64_t words[16], uint8_t *page0, size_t length0
 
     lh5801_call(words, page0, length0, page1, length1, limit, keyboard, 0, false, &none, 0, 0);
 }
+
+/* What lh5801_compare says; see "The comparison" above. */
+struct lh5801_comparison {
+    size_t place;
+    uint8_t number;
+};
+
+/*
+ * Compares the writes of the first `log_used` entries of a bus log with the `analyser_length` entries
+ * of an analyser's list.
+ */
+struct lh5801_comparison lh5801_compare(const uint32_t *log, size_t log_used,
+                                        const uint32_t *analyser, size_t analyser_length);
 
 #ifdef __cplusplus
 }

@@ -99,7 +99,7 @@ module _ (m : Lh5801) (w : Widths m) where
   unfolding with_p
   widths_p v h = record { a = w.a; t = w.t; x = w.x; y = w.y; u = w.u; s = w.s; p = h }
 
-  -- any other field
+  -- any other field set
   same : {k : Lh5801} → registers_of k ≡ registers_of m → Widths k
   same e = record {
     a = rw (ap (λ (r : Registers). r.a) e) w.a;

@@ -188,89 +188,89 @@ module _ (m : Lh5801) (w : Widths m) where
 width_executed : (m : Lh5801) → Widths m → (inputs : Inputs) → inputs.keyboard < 0x100
     → (i : Instruction) → T (vector_fits i) → InWidth Widths (execute_of m inputs i)
 unfolding execute_of alu_of memory_of bii_of drr_of drl_of load_of compare_of inc_half_of dec_half_of sin_of sde_of lin_of lde_of branch_of lop_of vector_if_of jmp_of sjp_of rtn_of rti_of load_sOf tin_of cin_of pop_to_of push_from_of adr_in_of cdv_of drop_word_of
-width_executed m w inputs key (Alu o place) v =
+width_executed m w inputs byte (Alu o place) v =
     width_bind _ _ _ _ (width_operand m w place) (λ f c. widths_operated (with_p m f.p) (widths_p m w f.p c.1) o f.value c.0)
-width_executed m w inputs key (Sta place) v = width_sta m w place
-width_executed m w inputs key (Memory o place) v =
+width_executed m w inputs byte (Sta place) v = width_sta m w place
+width_executed m w inputs byte (Memory o place) v =
     width_bind _ _ _ _ (width_located m w place)
     (λ l c. width_bind _ _ _ _ (width_readop l.p c.1)
     (λ i d. width_read _ _ _ c.0
     (λ b e.
     let changed = changed_bytes m.t o b i.value w.t e d.0 in
     width_write _ _ _ _ (c.0, changed.0) (widths_t (with_p m i.p) (widths_p m w i.p d.1) _ changed.1))))
-width_executed m w inputs key (Bii place) v =
+width_executed m w inputs byte (Bii place) v =
     width_bind _ _ _ _ (width_located m w place)
     (λ l c. width_read _ _ _ c.0
     (λ b e. width_bind _ _ _ _ (width_readop l.p c.1) (λ i d. widths_bit (with_p m i.p) (widths_p m w i.p d.1) b i.value)))
-width_executed m w inputs key (Drr page) v =
+width_executed m w inputs byte (Drr page) v =
     let at = address_fits m.x w.x page in
     width_read _ _ _ at (λ b c. width_write _ _ _ _ (at, drr_byte m.a b c) (widths_a m w b c))
-width_executed m w inputs key (Drl page) v =
+width_executed m w inputs byte (Drl page) v =
     let at = address_fits m.x w.x page in
     width_read _ _ _ at (λ b c. width_write _ _ _ _ (at, drl_byte m.a b w.a) (widths_a m w b c))
-width_executed m w inputs key (Load h) v =
+width_executed m w inputs byte (Load h) v =
     width_bind _ _ _ _ (width_readop m.p w.p) (λ f c. widths_half (with_p m f.p) (widths_p m w f.p c.1) h f.value c.0)
-width_executed m w inputs key (Compare h) v =
+width_executed m w inputs byte (Compare h) v =
     width_bind _ _ _ _ (width_readop m.p w.p) (λ f c. widths_cpa (with_p m f.p) (widths_p m w f.p c.1) _ f.value)
-width_executed m w inputs key (Inc h) v =
+width_executed m w inputs byte (Inc h) v =
     let sum = add_bytes m.t (half_in m h) 1 false w.t in
     widths_half (with_t m _) (widths_t m w _ sum.1) h _ sum.0
-width_executed m w inputs key (Dec h) v =
+width_executed m w inputs byte (Dec h) v =
     let sum = add_bytes m.t (half_in m h) 255 false w.t in
     widths_half (with_t m _) (widths_t m w _ sum.1) h _ sum.0
-width_executed m w inputs key (IncWord r) v = widths_inc_word m w r
-width_executed m w inputs key (DecWord r) v = widths_dec_word m w r
-width_executed m w inputs key (Sin r) v = width_bind _ _ _ _ (width_store_at m w r) (λ k x. widths_inc_word k x r)
-width_executed m w inputs key (Sde r) v = width_bind _ _ _ _ (width_store_at m w r) (λ k x. widths_dec_word k x r)
-width_executed m w inputs key (Lin r) v = width_bind _ _ _ _ (width_load_at m w r) (λ k x. widths_inc_word k x r)
-width_executed m w inputs key (Lde r) v = width_bind _ _ _ _ (width_load_at m w r) (λ k x. widths_dec_word k x r)
-width_executed m w inputs key (Branch direction c) v =
+width_executed m w inputs byte (IncWord r) v = widths_inc_word m w r
+width_executed m w inputs byte (DecWord r) v = widths_dec_word m w r
+width_executed m w inputs byte (Sin r) v = width_bind _ _ _ _ (width_store_at m w r) (λ k x. widths_inc_word k x r)
+width_executed m w inputs byte (Sde r) v = width_bind _ _ _ _ (width_store_at m w r) (λ k x. widths_dec_word k x r)
+width_executed m w inputs byte (Lin r) v = width_bind _ _ _ _ (width_load_at m w r) (λ k x. widths_inc_word k x r)
+width_executed m w inputs byte (Lde r) v = width_bind _ _ _ _ (width_load_at m w r) (λ k x. widths_dec_word k x r)
+width_executed m w inputs byte (Branch direction c) v =
     width_bind _ _ _ _ (width_readop m.p w.p)
     (λ f d. cond_both Widths (holds_of m.t c) _ _ (widths_branched m w f.p f.value direction) (widths_p m w f.p d.1))
-width_executed m w inputs key Lop v =
+width_executed m w inputs byte Lop v =
     let counted = widths_u m w (looped_of m.u).u (looped_word m.u w.u) in
     width_bind _ _ _ _ (width_readop m.p w.p)
     (λ f c. cond_both Widths (looped_of m.u).again _ _ (widths_branched (with_u m _) counted f.p f.value Backward) (widths_p (with_u m _) counted f.p c.1))
-width_executed m w inputs key (VectorIf c) v =
+width_executed m w inputs byte (VectorIf c) v =
     width_bind _ _ _ _ (width_readop m.p w.p)
     (λ f d.
     let next = widths_p m w f.p d.1 in
     cond_both (InWidth Widths) (holds_of m.t c) _ _ (width_vector (with_p m f.p) next f.value d.0) next)
-width_executed m w inputs key (Vector nr) v = width_vector m w nr (ltb→lt nr 0x100 v)
-width_executed m w inputs key Jmp v = width_bind _ _ _ _ (width_readop_word m.p w.p) (λ l c. widths_p m w l.value c.0)
-width_executed m w inputs key Sjp v =
+width_executed m w inputs byte (Vector nr) v = width_vector m w nr (ltb→lt nr 0x100 v)
+width_executed m w inputs byte Jmp v = width_bind _ _ _ _ (width_readop_word m.p w.p) (λ l c. widths_p m w l.value c.0)
+width_executed m w inputs byte Sjp v =
     width_bind _ _ _ _ (width_readop_word m.p w.p)
     (λ l c. width_bind _ _ _ _ (width_push_word m w l.p c.1) (λ k x. widths_p k x l.value c.0))
-width_executed m w inputs key Rtn v =
+width_executed m w inputs byte Rtn v =
     width_bind _ _ _ _ (width_pop_word m.s) (λ l c. widths_s (with_p m l.value) (widths_p m w l.value c.0) l.s c.1)
-width_executed m w inputs key Rti v =
+width_executed m w inputs byte Rti v =
     width_bind _ _ _ _ (width_pop_word m.s)
     (λ l c. width_read _ _ _ (omega arith)
     (λ t d. widths_t (with_s (with_p m l.value) _) (widths_s (with_p m l.value) (widths_p m w l.value c.0) _ (omega arith)) t d))
-width_executed m w inputs key LoadS v =
+width_executed m w inputs byte LoadS v =
     width_bind _ _ _ _ (width_readop_word m.p w.p) (λ l c. widths_p (with_s m l.value) (widths_s m w l.value c.0) l.p c.1)
-width_executed m w inputs key Tin v =
+width_executed m w inputs byte Tin v =
     width_read _ _ _ (omega (arith, w.x))
     (λ b c. width_write _ _ _ _ (omega (arith, w.y), c) (widths_y (with_x m _) (widths_x m w _ (omega arith)) _ (omega arith)))
-width_executed m w inputs key Cin v =
+width_executed m w inputs byte Cin v =
     width_read _ _ _ (omega (arith, w.x)) (λ b c. widths_cpa (with_x m _) (widths_x m w _ (omega arith)) m.a b)
-width_executed m w inputs key (OnA o) v = widths_on_a m w o inputs.keyboard key
-width_executed m w inputs key (Sets s b) v = widths_signal m w s b
-width_executed m w inputs key (PopWord r) v =
+width_executed m w inputs byte (OnA o) v = widths_on_a m w o inputs.keyboard byte
+width_executed m w inputs byte (Sets s b) v = widths_signal m w s b
+width_executed m w inputs byte (PopWord r) v =
     width_bind _ _ _ _ (width_pop_word m.s) (λ l c. widths_word (with_s m l.s) (widths_s m w l.s c.1) r l.value c.0)
-width_executed m w inputs key (PushWord r) v = width_push_word m w _ (word_fits m w r)
-width_executed m w inputs key PopA v = width_pop m w
-width_executed m w inputs key PushA v = width_push m w m.a w.a
-width_executed m w inputs key (ToX r) v = widths_to_x m w r
-width_executed m w inputs key (FromX r) v = widths_from_x m w r
-width_executed m w inputs key DropWord v = widths_s m w _ (omega arith)
-width_executed m w inputs key (Adr r) v =
+width_executed m w inputs byte (PushWord r) v = width_push_word m w _ (word_fits m w r)
+width_executed m w inputs byte PopA v = width_pop m w
+width_executed m w inputs byte PushA v = width_push m w m.a w.a
+width_executed m w inputs byte (ToX r) v = widths_to_x m w r
+width_executed m w inputs byte (FromX r) v = widths_from_x m w r
+width_executed m w inputs byte DropWord v = widths_s m w _ (omega arith)
+width_executed m w inputs byte (Adr r) v =
     let sum = adr_word m.t (word_in m r) m.a w.t in
     widths_word (with_t m _) (widths_t m w _ sum.1) r _ sum.0
-width_executed m w inputs key Off v = widths_bf m w false
-width_executed m w inputs key Hlt v = widths_halted m w true
-width_executed m w inputs key Cdv v = widths_previous m w _
-width_executed m w inputs key Nop v = w
+width_executed m w inputs byte Off v = widths_bf m w false
+width_executed m w inputs byte Hlt v = widths_halted m w true
+width_executed m w inputs byte Cdv v = widths_previous m w _
+width_executed m w inputs byte Nop v = w
 
 -- ---- one step
 
@@ -285,12 +285,12 @@ width_fetch p h =
 abbrev pub EndWidths : StepEnd → Type 0
 EndWidths = Did (λ k n kind. Widths k)
 
-module _ (inputs : Inputs) (key : inputs.keyboard < 0x100) where
+module _ (inputs : Inputs) (byte : inputs.keyboard < 0x100) where
   width_decoded : (m : Lh5801) → Widths m → (o : Code Opcode) → o.p < 0x10000 → (d : Option Listed) → decoded_by o.value ≡ d
       → InWidth EndWidths (decoded_step_of m inputs o d)
   unfolding decoded_step_of
   width_decoded m w o h (Some l) e =
-      width_bind _ _ _ _ (width_executed (with_p m o.p) (widths_p m w o.p h) inputs key l.instruction (listed_vectors o.value e))
+      width_bind _ _ _ _ (width_executed (with_p m o.p) (widths_p m w o.p h) inputs byte l.instruction (listed_vectors o.value e))
       (λ k x. widths_timer_part (add_state_of k l.states) (widths_add_state k x l.states))
   width_decoded m w o h None e = tt
 

@@ -1,4 +1,4 @@
--- The widths of accesses and of the bytes of the pages (document 01, "Record and pages"): the definitions compute on numbers of any size.
+-- The widths of accesses and of the pages' bytes (document 01, "Record and pages"), as the other definitions are over numbers of any size.
 use Rattle.std.specs.Prelude.{ℕ, ◌<◌, List, [], ◌∷◌}
 use Rattle.pages.specs.Pages.{Pages, at}
 use Rattle.pages.specs.Prog.{Access, read_of, write_of, Ran}

@@ -28,18 +28,18 @@ no_step_widths e m p w bytes = record { bus = tt; cpu = w; pages = bytes }
 run_widths : (inputs : Inputs) → inputs.keyboard < 0x100
     → (n : ℕ) (free : Option ℕ) (m : Lh5801) (p : Pages) → Widths m → AllBytes p → CallInWidth (run_of n inputs free m p)
 unfolding completed
-run_widths inputs key =
+run_widths inputs byte =
     run_each inputs (λ n free m p o. Widths m → AllBytes p → CallInWidth o)
     (λ free m p. no_step_widths AllSteps m p)
     (λ n free m p f. no_step_widths LogFull m p)
     (λ n free m p s f e. no_step_widths (Step s) m p)
     (λ n free m p k t kind f e h w bytes.
-    let step = step_widths inputs key m w p bytes in
+    let step = step_widths inputs byte m w p bytes in
     let rest = h (rw e at step.answer) step.pages in
     record { bus = fit_append (one_step inputs m p).accesses _ step.accesses rest.bus; cpu = rest.cpu; pages = rest.pages })
 
 -- any call, a refused one too: that has no access, and leaves the record and the pages as they were given
 pub call_widths : (s : Settings) → s.inputs.keyboard < 0x100
     → (free : Option ℕ) (m : Lh5801) (p : Pages) → Widths m → AllBytes p → CallInWidth (call_of s free m p)
-call_widths s key free m p w bytes =
-    call_each s free m p CallInWidth (λ e. no_step_widths e m p w bytes) (λ h. run_widths s.inputs key s.limit free m p w bytes)
+call_widths s byte free m p w bytes =
+    call_each s free m p CallInWidth (λ e. no_step_widths e m p w bytes) (λ h. run_widths s.inputs byte s.limit free m p w bytes)

@@ -4,3 +4,4 @@ pub mod Rows
 pub mod Flags
 pub mod Digits
 pub mod Status
+pub mod Widths

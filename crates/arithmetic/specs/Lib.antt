@@ -4,3 +4,4 @@ pub mod Sums
 pub mod Decimal
 pub mod Logic
 pub mod Shifts
+pub mod Widths

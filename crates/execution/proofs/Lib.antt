@@ -17,3 +17,4 @@ pub mod StopConditions
 pub mod Waiting
 pub mod ReadOrder
 pub mod Stops
+pub mod Widths

@@ -3,13 +3,17 @@ use Rattle.std.proofs.Common.{◌≡◌, ℕ, ◌+◌, ◌/◌, ◌%◌, ◌≤�
 use lib.ListN.{get_or-eq_default}
 use Rattle.arithmetic.proofs.Compute.{both, both_left, both_right, every, test_at}
 use Rattle.execution.specs.declared.instructions.Instruction.{Instruction}
+use Rattle.execution.specs.declared.instructions.Instruction.TheVariants.{Vector}
 use Rattle.execution.specs.declared.instructions.Listed.{Listed}
+use Rattle.execution.specs.declared.Opcode.{Opcode}
+use Rattle.execution.specs.declared.Opcode.TheVariants.{First, AfterFd}
 use Rattle.std.specs.Prelude.{Option, Some, None}
 use Rattle.execution.specs.Opcodes.{listed}
 use Rattle.execution.specs.Opcodes.{rows, decoded}
 use Rattle.execution.specs.OpcodesFd.{rows_fd, decoded_fd}
 use Rattle.execution.specs.Listed.{listed_first, listed_after_fd, bytes_where, place_fits}
 use Rattle.execution.specs.States.{added_when_taken}
+use Rattle.execution.specs.Step.{decoded_by}
 
 -- the first bytes that are not listed: document 01's list
 pub unlisted_first_bytes :
@@ -101,3 +105,17 @@ listed_places byte e = entry_at entry_fits decoded tt tt (past_rows rows refl) b
 pub listed_places_fd : (byte : ℕ) {i : Instruction} {n : ℕ} → decoded_fd byte ≡ listed i n → T (place_fits i)
 unfolding decoded_fd
 listed_places_fd byte e = entry_at entry_fits decoded_fd tt tt (past_rows rows_fd refl) byte e
+
+-- the number of a vector that the opcode names is a byte
+abbrev pub vector_fits : Instruction → Bool
+vector_fits (Vector nr) = ltb nr 0x100
+vector_fits i = true
+
+abbrev entry_vector_fits : Option Listed → Bool
+entry_vector_fits (Some l) = vector_fits l.instruction
+entry_vector_fits None = true
+
+pub listed_vectors : (opcode : Opcode) {l : Listed} → decoded_by opcode ≡ Some l → T (vector_fits l.instruction)
+unfolding decoded decoded_fd
+listed_vectors (First byte) e = entry_at entry_vector_fits decoded tt tt (past_rows rows refl) byte e
+listed_vectors (AfterFd byte) e = entry_at entry_vector_fits decoded_fd tt tt (past_rows rows_fd refl) byte e

@@ -8,3 +8,4 @@ pub mod Clean
 pub mod Stack
 pub mod Timer
 pub mod Examples
+pub mod Widths

@@ -4,3 +4,4 @@ pub mod Written
 pub mod Contract
 pub mod Stack
 pub mod Timer
+pub mod Widths

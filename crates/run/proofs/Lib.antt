@@ -16,3 +16,4 @@ pub mod Reading
 pub mod Marked
 pub mod AccessOrders
 pub mod Waiting
+pub mod Widths

@@ -13,10 +13,13 @@ both : (a b : Bool) → (a && b) ≡ true → (a ≡ true) × (b ≡ true)
 both true b e = (refl, e)
 both false b e = (e, absurd (true≢false (sym e)))
 
+pub write_is : {v w : Write} → v.address ≡ w.address → v.byte ≡ w.byte → v ≡ w
+write_is e f = ap₂ (λ a b. record { address = a; byte = b }) e f
+
 same_is : (v w : Write) → same v w ≡ true → v ≡ w
 same_is v w e =
     let each = both (eqb v.address w.address) (eqb v.byte w.byte) e in
-    ap₂ (λ a b. record { address = a; byte = b }) (eqb-true v.address w.address each.0) (eqb-true v.byte w.byte each.1)
+    write_is (eqb-true v.address w.address each.0) (eqb-true v.byte w.byte each.1)
 
 same_self : (v : Write) → same v v ≡ true
 same_self v = rw (eq-eqb v.address v.address refl, eq-eqb v.byte v.byte refl) refl

@@ -4,6 +4,7 @@ use Rattle.pages.specs.Written.{Write}
 use Rattle.analyser.specs.declared.Comparison.TheVariants.{Equal}
 use Rattle.analyser.specs.Comparison.{is_write, write_in, logged, caught, common, outcome, comparison_of}
 use Rattle.analyser.specs.Answers.{AllReads}
+use Rattle.analyser.proofs.Answers.{write_is}
 
 pub logged_append : (k l : List ℕ) → logged (k ++ l) ≡ logged k ++ logged l
 unfolding logged
@@ -44,8 +45,8 @@ both_empty = reads_alone [] tt
 pub above_25 : (entry n : ℕ) → (is_write (entry + n * 0x4000000) ≡ is_write entry) × (write_in (entry + n * 0x4000000) ≡ write_in entry)
 above_25 entry n = (
   ap (λ k. eqb k 1) (omega arith),
-  ap₂ (λ a b. record { address = a; byte = b }) (omega arith) (omega arith),
+  write_is (omega arith) (omega arith),
 )
 
 pub above_24 : (entry n : ℕ) → write_in (entry + n * 0x2000000) ≡ write_in entry
-above_24 entry n = ap₂ (λ a b. record { address = a; byte = b }) (omega arith) (omega arith)
+above_24 entry n = write_is (omega arith) (omega arith)

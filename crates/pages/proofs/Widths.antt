@@ -15,7 +15,7 @@ use Rattle.pages.specs.Widths.{AllBytes, Fits, AllFit, RanInWidth}
 use Rattle.pages.proofs.Pages.{at_store}
 
 -- a byte written into pages that hold bytes
-pub store_bytes : (m : Pages) → AllBytes m → (a v : ℕ) → v < 0x100 → AllBytes (store m a v)
+store_bytes : (m : Pages) → AllBytes m → (a v : ℕ) → v < 0x100 → AllBytes (store m a v)
 store_bytes m bytes b v h a = rw (at_store m b v a) (go (stored m a && eqb a b))
   where
     go : (t : Bool) → cond t v (at m a) < 0x100

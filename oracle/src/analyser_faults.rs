@@ -104,7 +104,7 @@ impl Wrong {
             return end(&ours, &theirs);
         }
         let mut unequal = (0..ours.len().min(theirs.len())).filter(|i| ours[*i] != theirs[*i]);
-        let unequal = if self.0 == LastPlace { unequal.last() } else { unequal.next() };
+        let unequal = if self.0 == LastPlace { unequal.next_back() } else { unequal.next() };
         let verdict = unequal.map_or(end(&ours, &theirs), |place| Verdict::new(DIFFER, place));
         self.changed(verdict, pair, ours.len())
     }
@@ -165,8 +165,8 @@ impl Wrong {
         let equal = Verdict::new(EQUAL, 0);
         match (self.0, number) {
             (PlaceInEntries, DIFFER | ANALYSER_ENDED) => {
-                let writes = (0..pair.log.len()).filter(|i| is_write(pair.log[*i]));
-                Verdict::new(number, writes.skip(place).next().unwrap_or(place))
+                let mut writes = (0..pair.log.len()).filter(|i| is_write(pair.log[*i]));
+                Verdict::new(number, writes.nth(place).unwrap_or(place))
             }
             (PlaceInEntries, LOG_ENDED) => Verdict::new(number, pair.log.len()),
             (PlaceOneMore, 1..) => Verdict::new(number, place + 1),
@@ -229,8 +229,8 @@ fn each_fault_is_found_by_the_random_pairs() {
     }
 }
 
-/// At most four entries in both lists together, with a few bits; of a fault in the eighth write
-/// fifteen.
+/// At most four entries in both lists together, and sixteen where the eighth write is wanted; and at
+/// most two bits beside the marks.
 #[test]
 fn each_fault_is_made_small() {
     for fault in FAULTS {
@@ -239,7 +239,7 @@ fn each_fault_is_made_small() {
         let bits =
             small.log.iter().chain(&small.analyser).map(|entry| (entry & !MARK).count_ones());
         let most = if fault == SevenAlone { 16 } else { 4 };
-        let is_small = small.entries() <= most && bits.sum::<u32>() <= 1;
+        let is_small = small.entries() <= most && bits.sum::<u32>() <= 2;
         assert!(is_small, "{fault:?}\n{}", describe(&small));
     }
 }

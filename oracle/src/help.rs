@@ -118,8 +118,8 @@ oracle analyser N [--seed S]
 
 Compares N pairs of lists by the port's lh5801_compare and by the oracle's own comparison, which is
 written from document 02, F-3: our log, and the list of an analyser that catches writes alone. Then
-all reads are taken out of our log, and one read is put in at its beginning, at its end or somewhere
-within, and the answer has to stay. Neither list may be changed. Directed pairs come first: each of
+all reads are taken out of our log, and one read is put in at its beginning, at its end and somewhere
+within, and each time the answer has to stay. Neither list may be changed. Directed pairs come first: each of
 the 32 bits of each entry turned, lists of 0 to 8 writes with every common beginning, the same write
 again and again, and each entry doubled, dropped, exchanged or changed. Then come random ones; one of
 16 is what the port logs in a random call, beside the writes that the original makes in it, as they

@@ -533,7 +533,7 @@ mod tests {
     #[cfg(feature = "port")]
     #[test]
     fn a_long_comparison() {
-        let log: Vec<u32> = (0..200_000).map(|i| i | (i & 1) * MARK).collect();
+        let log: Vec<u32> = (0..200_000).map(|i| if i & 1 == 1 { i | MARK } else { i }).collect();
         let caught: Vec<u32> = (0..200_000).filter(|i| i & 1 == 1).collect();
         assert_eq!(said(&log, &caught), Verdict::new(EQUAL, 0));
         assert_eq!(said(&log, &caught[..99_999]), Verdict::new(ANALYSER_ENDED, 99_999));

@@ -98,16 +98,17 @@ mod tests {
     use super::shrink;
     use crate::pair::{Pair, MARK};
 
-    /// Two thousand writes that differ in the last one: two of each list are left, or one.
+    /// Two thousand writes, with as many reads, that differ in the last one.
     #[test]
     fn a_long_pair_becomes_short() {
-        let log: Vec<u32> = (0..4000).map(|i| (i & 1) * MARK | 0xFC00_0000 | i << 5).collect();
-        let mut analyser: Vec<u32> = (0..2000).map(|i| i << 6 | 0x20).collect();
+        let caught = (0..2000).map(|i| i << 6 | 0x20);
+        let log: Vec<u32> = caught.clone().flat_map(|write| [0xFC00_0000, write | MARK]).collect();
+        let mut analyser: Vec<u32> = caught.collect();
         analyser[1999] ^= 0x11;
         let pair = Pair { log, analyser };
         assert_eq!(pair.by_text().place, 1999);
         let last = shrink(pair.clone(), &mut |pair| pair.by_text().place > 0);
-        assert_eq!((last.log, last.analyser), (vec![MARK; 1], vec![0; 2]));
+        assert_eq!((last.log, last.analyser), (vec![MARK], vec![0, 0]));
         let wanted = pair.by_text().number;
         let differing = shrink(pair, &mut |pair| pair.by_text().number == wanted);
         assert_eq!(differing.entries(), 2);

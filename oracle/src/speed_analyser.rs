@@ -111,7 +111,7 @@ pub fn run(programs: &[(&'static str, Call)], rounds: u64) -> Result<(), String>
         "sum: a plain sum of the same entries, several at once; nanoseconds an entry of our log"
     );
     println!(
-        "{:<27} {:>24} {:>24} {:>24} {:>13}",
+        "{:<28} {:>24} {:>24} {:>24} {:>13}",
         "", "port, comparing", "walk", "sum", "walk/port"
     );
     let mut pairs: Vec<(&str, Pair)> =
@@ -123,7 +123,7 @@ pub fn run(programs: &[(&'static str, Call)], rounds: u64) -> Result<(), String>
         let costs = measure(pair, rounds);
         let [port, walk, sum] = costs.each_ref().map(Spread::to_string);
         let ratio = ratio(&costs[WALK], &costs[PORT]);
-        println!("{title:<27} {port:>24} {walk:>24} {sum:>24} {ratio:>13}");
+        println!("{title:<28} {port:>24} {walk:>24} {sum:>24} {ratio:>13}");
     }
     Ok(())
 }

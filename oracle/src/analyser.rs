@@ -32,26 +32,42 @@ fn made(seed: u64, index: u64) -> Made {
     }
 }
 
-/// The first thing that a comparison says wrongly: of the pair, of the pair without the reads of our
-/// log, or of the pair with one more read at its beginning, at its end or somewhere within.
-pub fn difference(compare: Compare, pair: &Pair) -> Option<String> {
-    let wanted = pair.by_text();
-    let wrong = |pair: &Pair, what: &str| match compare(pair) {
-        Ok(said) if said == wanted => None,
-        Ok(said) => Some(format!("{what}{said}, and not: {wanted}")),
-        Err(message) => Some(format!("{what}{message}")),
-    };
+/// The pair, and pairs of which the same has to be said: without the reads of our log, and with one
+/// more read at its beginning, at its end and somewhere within.
+fn alike(pair: &Pair) -> Vec<(String, Pair)> {
     let length = pair.log.len();
     let mut random = Random::new(length as u64, pair.analyser.len() as u64);
     let within = random.below(length as u64 + 1) as usize;
     let read = random.next() as u32 & !MARK;
-    let one_more = |place: usize| {
+    let mut alike = vec![(String::new(), pair.clone())];
+    alike.push(("without reads: ".to_string(), pair.without_reads()));
+    for place in [0, length, within] {
         let what = format!("with the read {read:08X} put in at entry {place}: ");
-        wrong(&pair.with_entry(place, read), &what)
-    };
-    wrong(pair, "")
-        .or_else(|| wrong(&pair.without_reads(), "without reads: "))
-        .or_else(|| [0, length, within].into_iter().find_map(one_more))
+        alike.push((what, pair.with_entry(place, read)));
+    }
+    alike
+}
+
+/// The first thing that a comparison says wrongly, of the pair or of one of which the same has to be
+/// said.
+pub fn difference(compare: Compare, pair: &Pair) -> Option<String> {
+    let wanted = pair.by_text();
+    alike(pair).into_iter().find_map(|(what, pair)| match compare(&pair) {
+        Ok(said) if said == wanted => None,
+        Ok(said) => Some(format!("{what}{said}, and not: {wanted}")),
+        Err(message) => Some(format!("{what}{message}")),
+    })
+}
+
+/// The smallest failing pair found; the pair itself where nothing but its making tells that what is
+/// said is wrong.
+pub fn smallest(compare: Compare, pair: &Pair) -> Pair {
+    let is_wrong = |pair: &Pair| compare(pair) != Ok(pair.by_text());
+    let mut pairs = alike(pair).into_iter().map(|(_, pair)| pair);
+    match pairs.find(is_wrong) {
+        Some(failing) => shrink(failing, &is_wrong),
+        None => pair.clone(),
+    }
 }
 
 /// Where the making of a pair tells what has to be said, and something else is said.
@@ -161,10 +177,9 @@ impl Counts {
     }
 }
 
-/// Prints the smallest failing pair found, with both answers. A pair that fails by its making alone
-/// is printed as it is.
+/// Prints the smallest failing pair found, with both answers.
 fn report_smallest(compare: Compare, pair: &Pair) {
-    let smallest = shrink(pair.clone(), &mut |pair| difference(compare, pair).is_some());
+    let smallest = smallest(compare, pair);
     println!("smallest failing pair found:");
     print!("{}", describe(&smallest));
     println!("document 02: {}", smallest.by_text());
@@ -172,7 +187,6 @@ fn report_smallest(compare: Compare, pair: &Pair) {
         Ok(said) => println!("port: {said}"),
         Err(message) => println!("port: {message}"),
     }
-    println!("first difference: {}", difference(compare, &smallest).unwrap_or_default());
 }
 
 /// Runs the directed pairs; true where no difference was found, and every answer was met.
@@ -235,8 +249,9 @@ pub fn run(pairs: u64, seed: u64) -> bool {
 
 #[cfg(test)]
 mod tests {
-    use super::{Counts, FEATURES};
-    use crate::pairs::{self, Kind, TITLES};
+    use super::{unwanted, Counts, FEATURES};
+    use crate::pair::{Pair, Verdict, DIFFER, EQUAL};
+    use crate::pairs::{self, Kind, Made, TITLES};
     use crate::random::Random;
 
     /// The pairs without a real log meet everything but the real logs.
@@ -253,5 +268,17 @@ mod tests {
     fn nothing_is_met_without_pairs() {
         let unmet = Counts::default().unmet().len();
         assert_eq!(unmet, 4 + TITLES.len() + FEATURES.len() + 96);
+    }
+
+    /// A wrong answer is seen where document 02's text is read as wrongly.
+    #[test]
+    fn the_making_of_a_pair_tells() {
+        let said = |wanted: Option<Verdict>| {
+            let made = Made { kind: Kind::RealFaithful, pair: Pair::default(), bit: None, wanted };
+            unwanted(&|pair| Ok(pair.by_text()), &made)
+        };
+        assert_eq!(said(None), None);
+        assert_eq!(said(Some(Verdict::new(EQUAL, 0))), None);
+        assert!(said(Some(Verdict::new(DIFFER, 0))).is_some());
     }
 }

@@ -3,14 +3,13 @@
 
 #![forbid(unsafe_code)]
 
-use crate::analyser::difference;
+use crate::analyser::{difference, smallest};
 use crate::pair::{
     describe, is_write, Pair, Verdict, ANALYSER_ENDED, DIFFER, EQUAL, LOG_ENDED, LOW, MARK,
 };
 use crate::pairs;
 use crate::pairs_directed;
 use crate::random::Random;
-use crate::shrink_pair::shrink;
 
 #[derive(Clone, Copy, Debug, PartialEq, Eq)]
 enum Fault {
@@ -235,7 +234,8 @@ fn each_fault_is_found_by_the_random_pairs() {
 fn each_fault_is_made_small() {
     for fault in FAULTS {
         let failing = first(fault, random()).unwrap();
-        let small = shrink(failing, &mut |pair| is_found(fault, pair));
+        let small = smallest(&|pair| Ok(Wrong(fault).said(pair)), &failing);
+        assert_ne!(Wrong(fault).said(&small), small.by_text(), "{fault:?}");
         let bits =
             small.log.iter().chain(&small.analyser).map(|entry| (entry & !MARK).count_ones());
         let most = if fault == SevenAlone { 16 } else { 4 };

@@ -104,11 +104,15 @@ impl Pair {
     }
 }
 
-/// The first entries of a list, as they are and in words; those of an analyser are writes all.
+/// A list's entries, as they are and in words, those of an analyser as writes; the same one many
+/// times is told once.
 fn describe_list(name: &str, list: &[u32], mark: u32) -> String {
     let mut text = format!("{name}, length {}:", list.len());
-    for entry in list.iter().take(40) {
-        let _ = write!(text, " {entry:08X} ({})", Access::of_entry(entry | mark));
+    for same in list.chunk_by(|left, right| left == right).take(40) {
+        let _ = write!(text, " {:08X} ({})", same[0], Access::of_entry(same[0] | mark));
+        if same.len() > 1 {
+            let _ = write!(text, " {} times", same.len());
+        }
     }
     text + "\n"
 }
@@ -146,9 +150,9 @@ mod tests {
 
     #[test]
     fn a_pair_in_words() {
-        let pair = Pair { log: vec![0x0000_0427, 0x0200_0427], analyser: vec![0x0000_0427] };
+        let pair = Pair { log: vec![0x0000_0427, 0x0200_0427], analyser: vec![0x0000_0427; 3] };
         let log = "our log, length 2: 00000427 (R 0004 27) 02000427 (W 0004 27)\n";
-        let analyser = "the analyser's list, length 1: 00000427 (W 0004 27)\n";
+        let analyser = "the analyser's list, length 3: 00000427 (W 0004 27) 3 times\n";
         assert_eq!(describe(&pair), log.to_string() + analyser);
         assert_eq!(Verdict::new(LOG_ENDED, 3).to_string(), "our log ended at write 3");
         assert_eq!(Verdict::new(EQUAL, 1).to_string(), "number 0 with place 1");

@@ -10,7 +10,7 @@ use crate::pair::{is_write, Pair, LOW, MARK};
 const FEW: usize = 64;
 
 /// The smallest pair found for which `fails` still holds.
-pub fn shrink(pair: Pair, fails: &mut dyn FnMut(&Pair) -> bool) -> Pair {
+pub fn shrink(pair: Pair, fails: &dyn Fn(&Pair) -> bool) -> Pair {
     let mut best = pair;
     loop {
         let found = shorter(&best).find(|candidate| fails(candidate));
@@ -107,10 +107,10 @@ mod tests {
         analyser[1999] ^= 0x11;
         let pair = Pair { log, analyser };
         assert_eq!(pair.by_text().place, 1999);
-        let last = shrink(pair.clone(), &mut |pair| pair.by_text().place > 0);
+        let last = shrink(pair.clone(), &|pair| pair.by_text().place > 0);
         assert_eq!((last.log, last.analyser), (vec![MARK], vec![0, 0]));
         let wanted = pair.by_text().number;
-        let differing = shrink(pair, &mut |pair| pair.by_text().number == wanted);
+        let differing = shrink(pair, &|pair| pair.by_text().number == wanted);
         assert_eq!(differing.entries(), 2);
     }
 }

@@ -48,8 +48,8 @@ fn alike(pair: &Pair) -> Vec<(String, Pair)> {
     alike
 }
 
-/// The first thing that a comparison says wrongly, of the pair or of one of which the same has to be
-/// said.
+/// The first thing that a comparison says wrongly, of the pair or of one of which the same has to
+/// be said.
 pub fn difference(compare: Compare, pair: &Pair) -> Option<String> {
     let wanted = pair.by_text();
     alike(pair).into_iter().find_map(|(what, pair)| match compare(&pair) {

@@ -41,7 +41,7 @@ enum Fault {
     /// Reads are compared too; or an empty log of writes is not equal to an empty list.
     ReadsCompared,
     ReadsAloneDiffer,
-    /// Of a write the address alone is compared, or the byte alone, or the address without its page.
+    /// Of a write the address alone is compared, or the byte alone, or all but the page.
     AddressAlone,
     ByteAlone,
     PageIsLost,
@@ -228,8 +228,8 @@ fn each_fault_is_found_by_the_random_pairs() {
     }
 }
 
-/// At most four entries in both lists together, and sixteen where the eighth write is wanted; and at
-/// most two bits beside the marks.
+/// At most four entries in both lists together, and sixteen where the eighth write is wanted; and
+/// at most two bits beside the marks.
 #[test]
 fn each_fault_is_made_small() {
     for fault in FAULTS {

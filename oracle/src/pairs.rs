@@ -1,5 +1,5 @@
-//! Random pairs of our log and an analyser's list: faithful ones, and such as are cut, turned in one
-//! bit, or changed otherwise.
+//! Random pairs of our log and an analyser's list: faithful ones, and such as are cut, turned in
+//! one bit, or changed otherwise.
 
 #![forbid(unsafe_code)]
 

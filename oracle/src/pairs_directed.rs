@@ -1,5 +1,5 @@
-//! Directed pairs of our log and an analyser's list: every bit of an entry on each side, every split
-//! of short lists, and every entry doubled, dropped or exchanged.
+//! Directed pairs of our log and an analyser's list: every bit of an entry on each side, every
+//! split of short lists, and every entry doubled, dropped or exchanged.
 
 #![forbid(unsafe_code)]
 
@@ -131,8 +131,8 @@ const CHANGES: [Change; 6] = [
     |list, place| list.truncate(place),
 ];
 
-/// One to six writes with each entry doubled, dropped, exchanged with the next one, or changed, with
-/// another one before it, and the list cut there, on each side.
+/// One to six writes with each entry doubled, dropped, exchanged with the next one, or changed,
+/// with another one before it, and the list cut there, on each side.
 fn changes() -> impl Iterator<Item = Pair> {
     let lengths = (1..=6).flat_map(|length| READS.into_iter().map(move |reads| (length, reads)));
     let pairs = lengths.map(|(length, reads)| split(length, length, length, reads));

@@ -87,14 +87,14 @@ pub fn run(_: &mut Words, _: &mut [u8], _: &mut [u8], _: Inputs, _: u32, _: Lent
     unreachable!("this oracle was built without the feature `port`");
 }
 
-/// The port's comparison of our log with an analyser's list. It reads both lists only; they are lent
-/// as such that may be changed, so that a wrong change of them is seen.
+/// The port's comparison of our log with an analyser's list. It reads both lists only; they are
+/// lent as such that may be changed, so that a wrong change of them is seen.
 #[cfg(feature = "port")]
 pub fn compare(log: &mut [u32], analyser: &mut [u32]) -> Verdict {
     let (used, length) = (log.len(), analyser.len());
     let (log, analyser) = (log.as_mut_ptr(), analyser.as_mut_ptr());
-    // SAFETY: both lists are lent for the whole call, the pointers are aligned and not null, those of
-    // an empty list too, and each length is its list's own. The entry asks for nothing more.
+    // SAFETY: both lists are lent for the whole call, the pointers are aligned and not null, those
+    // of an empty list too, and each length is its list's own. The entry asks for nothing more.
     unsafe { entry::lh5801_compare(log, used, analyser, length) }
 }
 
@@ -104,14 +104,14 @@ pub fn compare(_: &mut [u32], _: &mut [u32]) -> Verdict {
     unreachable!("this oracle was built without the feature `port`");
 }
 
-/// The comparison on two blocks of the heap of exactly the lists' lengths, so that valgrind tells an
-/// access past an end.
+/// The comparison on two blocks of the heap of exactly the lists' lengths, so that valgrind tells
+/// an access past an end.
 pub fn compare_kept(pair: &Pair) -> Result<Verdict, String> {
-    kept(pair, compare)
+    watched(pair, compare)
 }
 
 /// What a comparison says of these lists, which have to stay as they are.
-fn kept(
+fn watched(
     pair: &Pair,
     compare: impl Fn(&mut [u32], &mut [u32]) -> Verdict,
 ) -> Result<Verdict, String> {
@@ -300,7 +300,7 @@ impl Side for Port {
 
 #[cfg(test)]
 mod tests {
-    use super::{add_noise, kept, record, run_logged, run_without_log, words, Block, Lent};
+    use super::{add_noise, record, run_logged, run_without_log, watched, words, Block, Lent};
     #[cfg(feature = "port")]
     use super::{compare_kept, run, Call, Inputs, Port, Side, TM};
     use crate::call::{BusLog, Record};
@@ -331,7 +331,7 @@ mod tests {
     }
 
     /// What the wrapper says of an entry that does this to a list of four with two used.
-    fn kept_log(guard: usize, run: impl FnOnce(Lent) -> usize) -> Result<(), String> {
+    fn kept(guard: usize, run: impl FnOnce(Lent) -> usize) -> Result<(), String> {
         run_logged(&mut BusLog { entries: vec![1, 2, 3, 4], used: 2 }, guard, run)
     }
 
@@ -346,15 +346,15 @@ mod tests {
     #[test]
     fn entries_that_were_not_appended_are_watched() {
         for guard in [0, 8] {
-            assert_eq!(kept_log(guard, puts(2, 3)), Ok(()));
-            assert_eq!(kept_log(guard, puts(3, 4)), Ok(()));
-            assert_eq!(kept_log(guard, |lent| lent.used), Ok(()));
+            assert_eq!(kept(guard, puts(2, 3)), Ok(()));
+            assert_eq!(kept(guard, puts(3, 4)), Ok(()));
+            assert_eq!(kept(guard, |lent| lent.used), Ok(()));
             for (place, used) in [(1, 3), (3, 3), (2, 2), (0, 4)] {
-                let said = kept_log(guard, puts(place, used)).unwrap_err();
+                let said = kept(guard, puts(place, used)).unwrap_err();
                 assert!(said.starts_with(&format!("entry {place} was not appended")), "{said}");
             }
             for used in [0, 1, 5, usize::MAX] {
-                assert!(kept_log(guard, puts(2, used)).unwrap_err().contains("came back as"));
+                assert!(kept(guard, puts(2, used)).unwrap_err().contains("came back as"));
             }
         }
     }
@@ -472,13 +472,13 @@ mod tests {
     #[test]
     fn both_lists_are_watched() {
         let equal = Verdict::new(EQUAL, 0);
-        assert_eq!(kept(&three(), |_, _| equal), Ok(equal));
-        let said = kept(&three(), |log, _| {
+        assert_eq!(watched(&three(), |_, _| equal), Ok(equal));
+        let said = watched(&three(), |log, _| {
             log[2] ^= 1 << 31;
             equal
         });
         assert!(said.is_err_and(|said| said.starts_with("our log was changed")));
-        let said = kept(&three(), |_, analyser| {
+        let said = watched(&three(), |_, analyser| {
             analyser[0] ^= 1;
             Verdict::new(DIFFER, 0)
         });
@@ -508,8 +508,8 @@ mod tests {
         assert_eq!(said(&log, &[]), Verdict::new(ANALYSER_ENDED, 0));
     }
 
-    /// Each of the 32 bits of one write beside the other: 0 to 24 are found, 25 of ours makes a read
-    /// of it, the others mean nothing.
+    /// Each of the 32 bits of one write beside the other: 0 to 24 are found, 25 of ours makes a
+    /// read of it, the others mean nothing.
     #[cfg(feature = "port")]
     #[test]
     fn each_bit_of_the_comparison() {

@@ -21,8 +21,8 @@ pub fn shrink(pair: Pair, fails: &dyn Fn(&Pair) -> bool) -> Pair {
     }
 }
 
-/// The pairs with a run of entries less, long runs first: the same writes in both lists, or a run of
-/// one list.
+/// The pairs with a run of entries less, long runs first: the same writes in both lists, or a run
+/// of one list.
 fn shorter(pair: &Pair) -> impl Iterator<Item = Pair> + '_ {
     let longest = pair.log.len().max(pair.analyser.len());
     let powers = (0..usize::BITS).rev().map(|power| 1 << power);

@@ -1,6 +1,6 @@
-//! The symbols of the port's archive: the two exported entries, the run call with the loop over steps in
-//! it and the comparison of a log, and no other function but those of the crate `bus`, which only a
-//! call with a log takes (docs/DECISIONS.md, F-2).
+//! The symbols of the port's archive: the two exported entries, the run call with the loop over
+//! steps in it and the comparison of a log, and no other function but those of the crate `bus`,
+//! which only a call with a log takes (docs/DECISIONS.md, F-2).
 
 #![forbid(unsafe_code)]
 

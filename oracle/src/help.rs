@@ -10,6 +10,7 @@ oracle compare N           N random calls, the original against the model or the
 oracle differential        100 million steps, the original against the port
 oracle rerun N             N runs through the port, cut into lists of calls on differing pages
 oracle park [N]            long parks: N waiting steps, the original against port and model
+oracle analyser N          N pairs of lists, a log and an analyser's, through the port's comparison
 oracle campaign N          N campaign files through the port's library or program
 oracle replay              the list of crates/replay through the port's libraries
 oracle items N             makes that list: the original's answers, as bytes
@@ -112,6 +113,24 @@ last one. Prints waiting steps and wakes. At a difference it prints the smallest
 finds and ends with status 1. It wants the feature `port`.
 ";
 
+pub const ANALYSER_HELP: &str = "\
+oracle analyser N [--seed S]
+
+Compares N pairs of lists by the port's lh5801_compare and by the oracle's own comparison, which is
+written from document 02, F-3: our log, and the list of an analyser that catches writes alone. Then
+all reads are taken out of our log, and one read is put in at its beginning, at its end and somewhere
+within, and each time the answer has to stay. Neither list may be changed. Directed pairs come first: each of
+the 32 bits of each entry turned, lists of 0 to 8 writes with every common beginning, the same write
+again and again, and each entry doubled, dropped, exchanged or changed. Then come random ones; one of
+16 is what the port logs in a random call, beside the writes that the original makes in it, as they
+are or with one write changed, dropped or added, so that the answer is known. Prints the pairs by
+answer, by kind, by the bit that is turned and by what their lists have; where N is 10,000 or more and
+one of these was never met it ends with status 1. At a difference it prints the smallest failing pair
+it finds and ends with status 1. It wants the feature `port`.
+
+--seed S   the seed, a decimal number; 1 without it
+";
+
 pub const CAMPAIGN_HELP: &str = "\
 oracle campaign N [--seed S] [--program PATH]
 
@@ -164,14 +183,15 @@ how many items there are, and by the number of their line.
 pub const SPEED_HELP: &str = "\
 oracle speed [--rounds N] [--bench DIR] [--least PERCENT]
 
-Checks that lh5801_call is the only function of the archive besides those of a log, as `oracle
-symbols` does (status 1 where it is not), and measures three ways to do the same work, in interleaved
-rounds: the original's bare step_cpu loop, the original under a run call with its stop checks, and
-the port. The work is that of campaign files with the idle figure 0, whole and cut into calls, and
-then waiting steps; all of it without a log. At the end come the same files with a log lent to the
-port, beside the original's bare steps over a memory that records the same entries. Prints the median
-with the least and the greatest, and the ratios of the medians, with those of the least costs behind
-them; above 1 the port is faster. It wants the feature `port`.
+Checks that lh5801_call and lh5801_compare are the only functions of the archive besides those of a
+log, as `oracle symbols` does (status 1 where they are not), and measures three ways to do the same
+work, in interleaved rounds: the original's bare step_cpu loop, the original under a run call with its
+stop checks, and the port. The work is that of campaign files with the idle figure 0, whole and cut
+into calls, and then waiting steps; all of it without a log. Then come the same files with a log lent
+to the port, beside the original's bare steps over a memory that records the same entries. Last comes
+lh5801_compare on the logs of these files and on random ones, beside two plain walks over the same
+lists. Prints the median with the least and the greatest, and the ratios of the medians, with those of
+the least costs behind them; above 1 the port is faster. It wants the feature `port`.
 
 --rounds N        rounds that count; 15 without it
 --bench DIR       the folder of lop.bin, dca.bin and mixed.bin; ../../shared/bench without it
@@ -194,9 +214,9 @@ instructions from outside:
 pub const SYMBOLS_HELP: &str = "\
 oracle symbols [ARCHIVE]
 
-Runs nm on the port's archive and checks that lh5801_call is its only function, exported or not,
-besides those of the crate bus, which only a call with a log takes. Without ARCHIVE it is the one
-that this oracle was built for.
+Runs nm on the port's archive and checks that it exports lh5801_call and lh5801_compare, and that they
+are its only functions, exported or not, besides those of the crate bus, which only a call with a log
+takes. Without ARCHIVE it is the one that this oracle was built for.
 ";
 
 pub const LIST_HELP: &str = "\

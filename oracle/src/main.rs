@@ -3,6 +3,9 @@
 
 #![deny(unsafe_code)]
 
+mod analyser;
+#[cfg(test)]
+mod analyser_faults;
 mod arguments;
 #[cfg(feature = "probe")]
 mod arithmetic;
@@ -23,16 +26,22 @@ mod logs;
 mod memory;
 mod model;
 mod original;
+mod pair;
+mod pairs;
+mod pairs_directed;
 mod park;
 mod port;
 #[cfg(feature = "probe")]
 mod probe;
 mod progress;
 mod random;
+mod real_logs;
 mod replay;
 mod rerun;
 mod shrink;
+mod shrink_pair;
 mod speed;
+mod speed_analyser;
 mod speed_log;
 mod symbols;
 mod traces;
@@ -156,6 +165,11 @@ fn park(arguments: &Arguments) -> Result<bool, String> {
     Ok(park::run(arguments.positive_word("a number of waiting steps", 10_000_000)?))
 }
 
+fn analyser(arguments: &Arguments) -> Result<bool, String> {
+    wants_port()?;
+    Ok(analyser::run(arguments.count()?, arguments.seed()?))
+}
+
 /// The library's function, where this oracle has it and no program is named.
 fn source(program: Option<&str>) -> Result<Source, String> {
     if let (None, Some(report)) = (program, lines::LIBRARY) {
@@ -266,12 +280,13 @@ fn arithmetic(_: &Arguments) -> Result<bool, String> {
 type Command =
     (&'static str, &'static str, &'static [&'static str], fn(&Arguments) -> Result<bool, String>);
 
-const COMMANDS: [Command; 13] = [
+const COMMANDS: [Command; 14] = [
     ("run", help::RUN_HELP, &["--side=", "--trace"], run),
     ("compare", help::COMPARE_HELP, &["--seed=", "--side="], compare),
     ("differential", help::DIFFERENTIAL_HELP, &["--steps=", "--seed=", "--threads="], differential),
     ("rerun", help::RERUN_HELP, &["--seed="], rerun),
     ("park", help::PARK_HELP, &[], park),
+    ("analyser", help::ANALYSER_HELP, &["--seed="], analyser),
     ("campaign", help::CAMPAIGN_HELP, &["--seed=", "--program="], campaign),
     ("replay", help::REPLAY_HELP, &[], replay),
     ("items", help::ITEMS_HELP, &["--seed=", "--out="], items),

@@ -8,6 +8,7 @@ use std::ops::Range;
 use std::sync::OnceLock;
 
 use crate::call::{Answer, BusLog, Call, Inputs, Record, Side};
+use crate::pair::{Pair, Verdict};
 
 /// The sixteen words that pass: 0 to 11 the record, 12 to 15 number, byte, steps and states.
 pub type Words = [u64; 16];
@@ -17,6 +18,8 @@ pub const LINKED: bool = cfg!(feature = "port");
 
 #[cfg(feature = "port")]
 mod entry {
+    use super::Verdict;
+
     extern "C" {
         pub fn lh5801_call(
             words: *mut u64,
@@ -32,6 +35,13 @@ mod entry {
             log_length: usize,
             log_used: usize,
         ) -> usize;
+
+        pub fn lh5801_compare(
+            log: *const u32,
+            log_used: usize,
+            analyser: *const u32,
+            analyser_length: usize,
+        ) -> Verdict;
     }
 }
 
@@ -75,6 +85,46 @@ pub fn run(
 #[cfg(not(feature = "port"))]
 pub fn run(_: &mut Words, _: &mut [u8], _: &mut [u8], _: Inputs, _: u32, _: Lent) -> usize {
     unreachable!("this oracle was built without the feature `port`");
+}
+
+/// The port's comparison of our log with an analyser's list. It reads both lists only; they are
+/// lent as such that may be changed, so that a wrong change of them is seen.
+#[cfg(feature = "port")]
+pub fn compare(log: &mut [u32], analyser: &mut [u32]) -> Verdict {
+    let (used, length) = (log.len(), analyser.len());
+    let (log, analyser) = (log.as_mut_ptr(), analyser.as_mut_ptr());
+    // SAFETY: both lists are lent for the whole call, the pointers are aligned and not null, those
+    // of an empty list too, and each length is its list's own. The entry asks for nothing more.
+    unsafe { entry::lh5801_compare(log, used, analyser, length) }
+}
+
+/// Commands test `LINKED` before they come here.
+#[cfg(not(feature = "port"))]
+pub fn compare(_: &mut [u32], _: &mut [u32]) -> Verdict {
+    unreachable!("this oracle was built without the feature `port`");
+}
+
+/// The comparison on two blocks of the heap of exactly the lists' lengths, so that valgrind tells
+/// an access past an end.
+pub fn compare_kept(pair: &Pair) -> Result<Verdict, String> {
+    watched(pair, compare)
+}
+
+/// What a comparison says of these lists, which have to stay as they are.
+fn watched(
+    pair: &Pair,
+    compare: impl Fn(&mut [u32], &mut [u32]) -> Verdict,
+) -> Result<Verdict, String> {
+    let mut log = pair.log.clone().into_boxed_slice();
+    let mut analyser = pair.analyser.clone().into_boxed_slice();
+    let verdict = compare(&mut log, &mut analyser);
+    if *log != *pair.log {
+        return Err(format!("our log was changed; said is: {verdict}"));
+    }
+    if *analyser != *pair.analyser {
+        return Err(format!("the analyser's list was changed; said is: {verdict}"));
+    }
+    Ok(verdict)
 }
 
 /// Widths of the words 0 to 8; the words after them have 64 bits.
@@ -250,12 +300,15 @@ impl Side for Port {
 
 #[cfg(test)]
 mod tests {
-    use super::{add_noise, record, run_logged, run_without_log, words, Block, Lent};
+    use super::{add_noise, record, run_logged, run_without_log, watched, words, Block, Lent};
     #[cfg(feature = "port")]
-    use super::{run, Call, Inputs, Port, Side, TM};
+    use super::{compare_kept, run, Call, Inputs, Port, Side, TM};
     use crate::call::{BusLog, Record};
     #[cfg(feature = "port")]
     use crate::original::Original;
+    use crate::pair::{Pair, Verdict, DIFFER, EQUAL};
+    #[cfg(feature = "port")]
+    use crate::pair::{ANALYSER_ENDED, LOG_ENDED, MARK};
     use crate::random::{self, Random};
 
     #[test]
@@ -408,5 +461,85 @@ mod tests {
         assert_eq!(number([65_537, 65_537]), 1);
         assert_eq!(number([0, 65_537]), 2);
         assert_eq!(number([65_536, 65_537]), 2);
+    }
+
+    /// A pair whose two lists have the same three entries, one of them no write.
+    fn three() -> Pair {
+        let log = vec![0x0200_0427, 0x0000_0015, 0xFF10_0028];
+        Pair { analyser: log.clone(), log }
+    }
+
+    #[test]
+    fn both_lists_are_watched() {
+        let equal = Verdict::new(EQUAL, 0);
+        assert_eq!(watched(&three(), |_, _| equal), Ok(equal));
+        let said = watched(&three(), |log, _| {
+            log[2] ^= 1 << 31;
+            equal
+        });
+        assert!(said.is_err_and(|said| said.starts_with("our log was changed")));
+        let said = watched(&three(), |_, analyser| {
+            analyser[0] ^= 1;
+            Verdict::new(DIFFER, 0)
+        });
+        assert!(said.is_err_and(|said| said.starts_with("the analyser's list was changed")));
+    }
+
+    /// What the port says of two lists.
+    #[cfg(feature = "port")]
+    fn said(log: &[u32], analyser: &[u32]) -> Verdict {
+        compare_kept(&Pair { log: log.to_vec(), analyser: analyser.to_vec() }).unwrap()
+    }
+
+    /// A read between two writes; empty lists have a pointer that is not null.
+    #[cfg(feature = "port")]
+    #[test]
+    fn the_comparison() {
+        let Pair { log, .. } = three();
+        let caught = [0x0000_0427, 0x0110_0028];
+        assert_eq!(said(&[], &[]), Verdict::new(EQUAL, 0));
+        assert_eq!(said(&log[1..2], &[]), Verdict::new(EQUAL, 0));
+        assert_eq!(said(&log, &caught), Verdict::new(EQUAL, 0));
+        assert_eq!(said(&log, &[0x0000_0427, 0x0110_0029]), Verdict::new(DIFFER, 1));
+        assert_eq!(said(&log, &caught[1..]), Verdict::new(DIFFER, 0));
+        assert_eq!(said(&log[..2], &caught), Verdict::new(LOG_ENDED, 1));
+        assert_eq!(said(&[], &caught), Verdict::new(LOG_ENDED, 0));
+        assert_eq!(said(&log, &caught[..1]), Verdict::new(ANALYSER_ENDED, 1));
+        assert_eq!(said(&log, &[]), Verdict::new(ANALYSER_ENDED, 0));
+    }
+
+    /// Each of the 32 bits of one write beside the other: 0 to 24 are found, 25 of ours makes a
+    /// read of it, the others mean nothing.
+    #[cfg(feature = "port")]
+    #[test]
+    fn each_bit_of_the_comparison() {
+        let (equal, differ) = (Verdict::new(EQUAL, 0), Verdict::new(DIFFER, 0));
+        for write in [MARK, u32::MAX, 0xAAAA_AAAA, 0x5655_5555] {
+            assert_eq!(said(&[write], &[write]), equal);
+            for bit in 0..32 {
+                let turned = write ^ 1 << bit;
+                let [ours, theirs] = match bit {
+                    0..=24 => [differ, differ],
+                    25 => [Verdict::new(LOG_ENDED, 0), equal],
+                    _ => [equal, equal],
+                };
+                assert_eq!(said(&[turned], &[write]), ours, "bit {bit} of {write:08X}");
+                assert_eq!(said(&[write], &[turned]), theirs, "bit {bit} of {write:08X}");
+            }
+        }
+    }
+
+    /// A place of more than 16 bits.
+    #[cfg(feature = "port")]
+    #[test]
+    fn a_long_comparison() {
+        let log: Vec<u32> = (0..200_000).map(|i| if i & 1 == 1 { i | MARK } else { i }).collect();
+        let caught: Vec<u32> = (0..200_000).filter(|i| i & 1 == 1).collect();
+        assert_eq!(said(&log, &caught), Verdict::new(EQUAL, 0));
+        assert_eq!(said(&log, &caught[..99_999]), Verdict::new(ANALYSER_ENDED, 99_999));
+        assert_eq!(said(&log[..199_998], &caught), Verdict::new(LOG_ENDED, 99_999));
+        let mut other = caught;
+        other[99_998] ^= 0x0100_0000;
+        assert_eq!(said(&log, &other), Verdict::new(DIFFER, 99_998));
     }
 }

@@ -17,6 +17,7 @@ use bare::{Pc1500, Returned};
 use crate::call::{Answer, BusLog, Call, Inputs, Record};
 use crate::campaign;
 use crate::port::{self, Lent, Words};
+use crate::speed_analyser;
 use crate::speed_log;
 
 pub struct Settings {
@@ -279,6 +280,7 @@ pub fn run(settings: &Settings) -> Result<f64, String> {
         print_row(&Work::steps(&format!("idle figure {idle}"), &parked(idle), 1_000_000), rounds)?;
     }
     speed_log::run(&programs, rounds)?;
+    speed_analyser::run(&programs, rounds)?;
     Ok(least)
 }
 

@@ -1,13 +1,14 @@
-//! The symbols of the port's archive: the exported entry, with the loop over steps in it, and no other
-//! function but those of the crate `bus`, which only a call with a log takes (docs/DECISIONS.md, F-2).
+//! The symbols of the port's archive: the two exported entries, the run call with the loop over
+//! steps in it and the comparison of a log, and no other function but those of the crate `bus`,
+//! which only a call with a log takes (docs/DECISIONS.md, F-2).
 
 #![forbid(unsafe_code)]
 
 use std::path::Path;
 use std::process::Command;
 
-/// The one function that the archive exports.
-const ENTRY: &str = "lh5801_call";
+/// The functions that the archive exports.
+const ENTRIES: [&str; 2] = ["lh5801_call", "lh5801_compare"];
 
 /// Kind and name of each symbol in what `nm` prints.
 fn symbols(listing: &str) -> Vec<(char, String)> {
@@ -31,14 +32,16 @@ fn is_of_log(kind: char, name: &str) -> bool {
     kind == 't' && name.starts_with("bus::")
 }
 
-/// Is the entry exported, and is every other function the log's?
-fn entry_alone(symbols: &[(char, String)]) -> bool {
-    let other =
-        |(kind, name): &(char, String)| is_text(*kind) && name != ENTRY && !is_of_log(*kind, name);
-    symbols.contains(&('T', ENTRY.to_string())) && !symbols.iter().any(other)
+/// Is each entry exported, and is every other function the log's?
+fn entries_alone(symbols: &[(char, String)]) -> bool {
+    let is_exported = |entry: &&str| symbols.contains(&('T', entry.to_string()));
+    let is_other = |(kind, name): &(char, String)| {
+        is_text(*kind) && !ENTRIES.contains(&name.as_str()) && !is_of_log(*kind, name)
+    };
+    ENTRIES.iter().all(is_exported) && !symbols.iter().any(is_other)
 }
 
-/// Checks the archive; true where the entry is its only function besides those of the log.
+/// Checks the archive; true where the entries are its only functions besides those of the log.
 pub fn run(archive: &Path) -> Result<bool, String> {
     if !archive.is_file() {
         return Err(format!(
@@ -61,15 +64,15 @@ pub fn run(archive: &Path) -> Result<bool, String> {
     println!("functions: {}", text.join(" "));
     println!("wanted from outside: {}", of(&|kind| kind == 'U').join(" "));
     println!("other symbols: {}", of(&|kind| kind != 'U' && !is_text(kind)).join(" "));
-    let alone = entry_alone(&symbols);
+    let alone = entries_alone(&symbols);
     let only = if alone { "the only" } else { "NOT the only" };
-    println!("{ENTRY} is {only} function besides those of the log");
+    println!("{} are {only} functions besides those of the log", ENTRIES.join(" and "));
     Ok(alone)
 }
 
 #[cfg(test)]
 mod tests {
-    use super::{entry_alone, symbols};
+    use super::{entries_alone, symbols};
 
     #[test]
     fn a_listing_is_read() {
@@ -81,10 +84,19 @@ mod tests {
 
     #[test]
     fn another_function_is_found() {
-        let with = |line: &str| entry_alone(&symbols(&format!("0000 T lh5801_call\n{line}\n")));
-        assert!(with("0000 t bus::note_step"));
+        let entries = "0000 T lh5801_call\n0000 T lh5801_compare\n";
+        let with = |line: &str| entries_alone(&symbols(&format!("{entries}{line}\n")));
+        assert!(with("") && with("0000 t bus::note_step"));
         assert!(!with("0000 t run::steps_of"));
         assert!(!with("0000 T bus::note_step"));
-        assert!(!entry_alone(&symbols("0000 t lh5801_call\n")));
+        assert!(!with("0000 t analyser::compare"));
+    }
+
+    #[test]
+    fn a_missing_entry_is_found() {
+        assert!(!entries_alone(&symbols("0000 T lh5801_call\n")));
+        assert!(!entries_alone(&symbols("0000 T lh5801_compare\n")));
+        assert!(!entries_alone(&symbols("0000 T lh5801_call\n0000 t lh5801_compare\n")));
+        assert!(!entries_alone(&symbols("0000 t lh5801_call\n0000 T lh5801_compare\n")));
     }
 }

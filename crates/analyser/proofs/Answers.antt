@@ -3,8 +3,8 @@ use Rattle.std.proofs.Common.{◌≡◌, ℕ, suc, ◌+◌, ◌≤◌, ◌≢◌
 use Rattle.pages.specs.Written.{Write}
 use Rattle.analyser.specs.declared.Comparison.{Comparison}
 use Rattle.analyser.specs.declared.Comparison.TheVariants.{Equal, Differ, LogEnded, AnalyserEnded}
-use Rattle.analyser.specs.Comparison.{logged, caught, same, common, parted, outcome, comparison_of, place_of}
-use Rattle.analyser.proofs.Outcome.{ahead, from_start, ahead_equal, ahead_same, ahead_differ, ahead_log_ended, ahead_analyser_ended}
+use Rattle.analyser.specs.Comparison.{logged, caught, same_write, common, parted, outcome, comparison_of, place_of}
+use Rattle.analyser.proofs.Outcome.{ahead, from_start, ahead_equal, ahead_common, ahead_differ, ahead_log_ended, ahead_analyser_ended}
 use Rattle.analyser.specs.Answers.{Says, equal, differ, log_ended, analyser_ended, Begins, Longest}
 
 -- ---- the same address and byte
@@ -16,22 +16,22 @@ both false b e = (e, absurd (true≢false (sym e)))
 pub write_is : {v w : Write} → v.address ≡ w.address → v.byte ≡ w.byte → v ≡ w
 write_is e f = ap₂ (λ a b. record { address = a; byte = b }) e f
 
-same_is : (v w : Write) → same v w ≡ true → v ≡ w
+same_is : (v w : Write) → same_write v w ≡ true → v ≡ w
 same_is v w e =
     let each = both (eqb v.address w.address) (eqb v.byte w.byte) e in
     write_is (eqb-true v.address w.address each.0) (eqb-true v.byte w.byte each.1)
 
-same_self : (v : Write) → same v v ≡ true
+same_self : (v : Write) → same_write v v ≡ true
 same_self v = rw (eq-eqb v.address v.address refl, eq-eqb v.byte v.byte refl) refl
 
-not_same : (v w : Write) → v ≢ w → same v w ≡ false
-not_same v w n = go (same v w) refl
+not_same : (v w : Write) → v ≢ w → same_write v w ≡ false
+not_same v w n = go (same_write v w) refl
   where
-    go : (b : Bool) → same v w ≡ b → b ≡ false
+    go : (b : Bool) → same_write v w ≡ b → b ≡ false
     go true e = absurd (n (same_is v w e))
     go false e = refl
 
-differs : (v w : Write) → same v w ≡ false → v ≢ w
+differs : (v w : Write) → same_write v w ≡ false → v ≢ w
 differs v w e is = true≢false (sym (same_self w) ∙ rw is at e)
 
 -- ---- what the answer says
@@ -40,11 +40,11 @@ says_after : (first vs ws : List Write) → Says (first ++ vs) (first ++ ws) (ah
 says_after first [] [] = rw (ahead_equal (length first)) (equal refl)
 says_after first [] (w ∷ ws) = rw (ahead_log_ended (length first) w ws, append-nil first) (log_ended w ws refl)
 says_after first (v ∷ vs) [] = rw (ahead_analyser_ended (length first) v vs, append-nil first) (analyser_ended v vs refl)
-says_after first (v ∷ vs) (w ∷ ws) = go (same v w) refl (says_after (first ++ v ∷ []) vs ws)
+says_after first (v ∷ vs) (w ∷ ws) = go (same_write v w) refl (says_after (first ++ v ∷ []) vs ws)
   where
-    go : (b : Bool) → same v w ≡ b → Says ((first ++ v ∷ []) ++ vs) ((first ++ v ∷ []) ++ ws) (ahead (length (first ++ v ∷ [])) vs ws)
+    go : (b : Bool) → same_write v w ≡ b → Says ((first ++ v ∷ []) ++ vs) ((first ++ v ∷ []) ++ ws) (ahead (length (first ++ v ∷ [])) vs ws)
         → Says (first ++ v ∷ vs) (first ++ w ∷ ws) (ahead (length first) (v ∷ vs) (w ∷ ws))
-    go true e h = rw (ahead_same (length first) v w vs ws e, ← same_is v w e) (rw (append_assoc first (v ∷ []) vs, append_assoc first (v ∷ []) ws, length-append first (v ∷ [])) at h)
+    go true e h = rw (ahead_common (length first) v w vs ws e, ← same_is v w e) (rw (append_assoc first (v ∷ []) vs, append_assoc first (v ∷ []) ws, length-append first (v ∷ [])) at h)
     go false e h = rw (ahead_differ (length first) v w vs ws e) (differ first v w vs ws refl refl (differs v w e))
 
 -- ---- and no other answer says so
@@ -53,7 +53,7 @@ after_first : (n : ℕ) (first vs ws : List Write) → ahead n (first ++ vs) (fi
 after_first n [] vs ws = rw add-zero refl
 after_first n (v ∷ first) vs ws =
     let e : n + 1 + length first ≡ n + length (v ∷ first) = omega arith in
-    ahead_same n v v (first ++ vs) (first ++ ws) (same_self v) ∙ after_first (n + 1) first vs ws ∙ ap (λ k. ahead k vs ws) e
+    ahead_common n v v (first ++ vs) (first ++ ws) (same_self v) ∙ after_first (n + 1) first vs ws ∙ ap (λ k. ahead k vs ws) e
 
 -- both begin with `first`, and then comes c
 then : (ours theirs first vs ws : List Write) (c : ℕ → Comparison) → ours ≡ first ++ vs → theirs ≡ first ++ ws → ((n : ℕ) → ahead n vs ws ≡ c n)
@@ -133,9 +133,9 @@ longest : (vs ws : List Write) → Longest vs ws (common vs ws)
 unfolding common
 longest [] ws = none_common (λ first a b. no_more first a)
 longest (v ∷ vs) [] = none_common (λ first a b. no_more first b)
-longest (v ∷ vs) (w ∷ ws) = go (same v w) refl (longest vs ws)
+longest (v ∷ vs) (w ∷ ws) = go (same_write v w) refl (longest vs ws)
   where
-    go : (b : Bool) → same v w ≡ b → Longest vs ws (common vs ws) → Longest (v ∷ vs) (w ∷ ws) (cond b (suc (common vs ws)) 0)
+    go : (b : Bool) → same_write v w ≡ b → Longest vs ws (common vs ws) → Longest (v ∷ vs) (w ∷ ws) (cond b (suc (common vs ws)) 0)
     go true e h = rw (same_is v w e) (longest_same w h)
     go false e h = none_common (differ_at_once v w vs ws (differs v w e))
 

@@ -4,7 +4,7 @@ use Rattle.std.specs.Prelude.{slice_index_or}
 use Rattle.pages.specs.Written.{Write}
 use Rattle.analyser.specs.declared.Comparison.{Comparison}
 use Rattle.analyser.specs.declared.Comparison.TheVariants.{Equal, Differ, LogEnded, AnalyserEnded}
-use Rattle.analyser.specs.Comparison.{is_write, write_in, logged, caught, same, common, parted, outcome}
+use Rattle.analyser.specs.Comparison.{is_write, write_in, logged, caught, same_write, common, parted, outcome}
 
 -- the answer where n writes were the same before
 unfoldable pub ahead : ℕ → List Write → List Write → Comparison
@@ -20,13 +20,13 @@ pub ahead_equal : (n : ℕ) → ahead n [] [] ≡ Equal
 unfolding ahead common
 ahead_equal n = refl
 
-pub ahead_same : (n : ℕ) (v w : Write) (vs ws : List Write) → same v w ≡ true → ahead n (v ∷ vs) (w ∷ ws) ≡ ahead (n + 1) vs ws
+pub ahead_common : (n : ℕ) (v w : Write) (vs ws : List Write) → same_write v w ≡ true → ahead n (v ∷ vs) (w ∷ ws) ≡ ahead (n + 1) vs ws
 unfolding ahead common
-ahead_same n v w vs ws e =
+ahead_common n v w vs ws e =
     let next : n + suc (common vs ws) ≡ n + 1 + common vs ws = omega arith in
     rw (e, next) refl
 
-pub ahead_differ : (n : ℕ) (v w : Write) (vs ws : List Write) → same v w ≡ false → ahead n (v ∷ vs) (w ∷ ws) ≡ Differ n
+pub ahead_differ : (n : ℕ) (v w : Write) (vs ws : List Write) → same_write v w ≡ false → ahead n (v ∷ vs) (w ∷ ws) ≡ Differ n
 unfolding ahead common
 ahead_differ n v w vs ws e = rw (e, add-zero) refl
 
@@ -42,7 +42,7 @@ ahead_analyser_ended n v vs = rw add-zero refl
 entry_first : (l : List ℕ) (i : ℕ) → i < length l → drop i l ≡ slice_index_or l i 0 ∷ drop (i + 1) l
 entry_first l i h = rw add-one (drop-cons l i 0 h)
 
--- a turn over the entry at i of the log, where n writes were the same
+-- a turn over the entry at i of the log, where n writes were the same_write
 module _ (log analyser : List ℕ) (i n : ℕ) where
   abbrev left : ℕ → ℕ → Comparison
   left i n = ahead n (logged (drop i log)) (caught (drop n analyser))
@@ -56,13 +56,13 @@ module _ (log analyser : List ℕ) (i n : ℕ) where
   unfolding logged
   turn_read h e = rw (entry_first log i h, e) refl
 
-  pub turn_same : i < length log → n < length analyser → is_write (slice_index_or log i 0) ≡ true
-      → same (write_in (slice_index_or log i 0)) (write_in (slice_index_or analyser n 0)) ≡ true
+  pub turn_common : i < length log → n < length analyser → is_write (slice_index_or log i 0) ≡ true
+      → same_write (write_in (slice_index_or log i 0)) (write_in (slice_index_or analyser n 0)) ≡ true
       → left i n ≡ left (i + 1) (n + 1)
-  turn_same h k e s = rw (logged_write h e, entry_first analyser n k) (ahead_same n _ _ _ _ s)
+  turn_common h k e s = rw (logged_write h e, entry_first analyser n k) (ahead_common n _ _ _ _ s)
 
   pub turn_differ : i < length log → n < length analyser → is_write (slice_index_or log i 0) ≡ true
-      → same (write_in (slice_index_or log i 0)) (write_in (slice_index_or analyser n 0)) ≡ false
+      → same_write (write_in (slice_index_or log i 0)) (write_in (slice_index_or analyser n 0)) ≡ false
       → left i n ≡ Differ n
   turn_differ h k e s = rw (logged_write h e, entry_first analyser n k) (ahead_differ n _ _ _ _ s)
 

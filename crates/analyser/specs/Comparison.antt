@@ -22,14 +22,14 @@ abbrev pub caught : List ℕ → List Write
 caught entries = map write_in entries
 
 -- the same address and the same byte
-abbrev pub same : Write → Write → Bool
-same v w = v.address == w.address && v.byte == w.byte
+abbrev pub same_write : Write → Write → Bool
+same_write v w = v.address == w.address && v.byte == w.byte
 
 -- how many writes two sequences have in common, from the first on
 unfoldable pub common : List Write → List Write → ℕ
 common [] ws = 0
 common (v ∷ vs) [] = 0
-common (v ∷ vs) (w ∷ ws) = cond (same v w) (suc (common vs ws)) 0
+common (v ∷ vs) (w ∷ ws) = cond (same_write v w) (suc (common vs ws)) 0
 
 -- the answer, by what each has left after the n writes that they have in common
 abbrev pub parted : List Write → List Write → ℕ → Comparison

@@ -2,7 +2,7 @@
 #![tactic(auto)]
 
 ghost use Rattle.std.specs.Prelude.{◌≡◌};
-ghost use Rattle.analyser.specs.Comparison.{is_write, write_in, same, comparison_of, number_of, place_of};
+ghost use Rattle.analyser.specs.Comparison.{is_write, write_in, same_write, comparison_of, number_of, place_of};
 
 /// What the comparison says. A place is counted in writes, from 0: so many writes were the same.
 #[derive(Clone, Copy)]
@@ -46,29 +46,29 @@ fn is_write(entry: u32) -> bool
 }
 
 // Two entries have the same address and byte.
-fn same_write(entry: u32, caught: u32) -> bool
-    ensures { result ≡ same (write_in entry) (write_in caught) }
+fn same_write(entry: u32, other: u32) -> bool
+    ensures { result ≡ same_write (write_in entry) (write_in other) }
 {
-    entry % 0x2000000 == caught % 0x2000000
+    entry % 0x2000000 == other % 0x2000000
 }
 
 /// The writes of our log, in order, against the analyser's entries.
-#[tactic(auto, using(crate::proofs::Outcome::from_start, crate::proofs::Outcome::turn_read, crate::proofs::Outcome::turn_same, crate::proofs::Outcome::turn_differ, crate::proofs::Outcome::turn_ended, crate::proofs::Outcome::end_left, crate::proofs::Outcome::end_equal))]
+#[tactic(auto, using(crate::proofs::Outcome::from_start, crate::proofs::Outcome::turn_read, crate::proofs::Outcome::turn_common, crate::proofs::Outcome::turn_differ, crate::proofs::Outcome::turn_ended, crate::proofs::Outcome::end_left, crate::proofs::Outcome::end_equal))]
 pub fn compare(log: &[u32], analyser: &[u32]) -> Comparison
     ensures { result ≡ comparison_of log.now analyser.now }
 {
-    let mut same = 0;
+    let mut common = 0;
     for &entry in log {
         if is_write(entry) {
-            match analyser.get(same) {
-                None => return Comparison::AnalyserEnded(same),
-                Some(&caught) if same_write(entry, caught) => same += 1,
-                Some(_) => return Comparison::Differ(same),
+            match analyser.get(common) {
+                None => return Comparison::AnalyserEnded(common),
+                Some(&other) if same_write(entry, other) => common += 1,
+                Some(_) => return Comparison::Differ(common),
             }
         }
     }
-    if same < analyser.len() {
-        Comparison::LogEnded(same)
+    if common < analyser.len() {
+        Comparison::LogEnded(common)
     } else {
         Comparison::Equal
     }

@@ -24,14 +24,14 @@ unfolding with_flags
 flags_byte t w c z v h = omega (arith, w, bit_small c, bit_small z, bit_small v, bit_small h)
 
 -- a result and its T
-abbrev pub Bytes : Sum ℕ → Type 0
-Bytes s = (s.value < 0x100) × (s.t < 0x100)
+abbrev pub SumBytes : Sum ℕ → Type 0
+SumBytes s = (s.value < 0x100) × (s.t < 0x100)
 
-pub add_bytes : (t left right : ℕ) (carry : Bool) → t < 0x100 → Bytes (add_of t left right carry)
+pub add_bytes : (t left right : ℕ) (carry : Bool) → t < 0x100 → SumBytes (add_of t left right carry)
 unfolding add_of
 add_bytes t left right carry h = (omega arith, flags_byte t h _ _ _ _)
 
-decimal_bytes : (t left right : ℕ) (carry : Bool) → t < 0x100 → Bytes (decimal_sum_of t left right carry)
+decimal_bytes : (t left right : ℕ) (carry : Bool) → t < 0x100 → SumBytes (decimal_sum_of t left right carry)
 unfolding decimal_sum_of
 decimal_bytes t left right carry h = (omega arith, (add_bytes t left right carry h).1)
 
@@ -70,7 +70,7 @@ abbrev registers_of : Lh5801 → Registers
 registers_of m = record { a = m.a; t = m.t; x = m.x; y = m.y; u = m.u; s = m.s; p = m.p }
 
 module _ (m : Lh5801) (w : Widths m) where
-  -- another value of the same width in a register
+  -- another value of the same_registers width in a register
   pub widths_a : (v : ℕ) → v < 0x100 → Widths (with_a m v)
   unfolding with_a
   widths_a v h = record { a = h; t = w.t; x = w.x; y = w.y; u = w.u; s = w.s; p = w.p }
@@ -100,8 +100,8 @@ module _ (m : Lh5801) (w : Widths m) where
   widths_p v h = record { a = w.a; t = w.t; x = w.x; y = w.y; u = w.u; s = w.s; p = h }
 
   -- any other field set
-  same : {k : Lh5801} → registers_of k ≡ registers_of m → Widths k
-  same e = record {
+  same_registers : {k : Lh5801} → registers_of k ≡ registers_of m → Widths k
+  same_registers e = record {
     a = rw (ap (λ (r : Registers). r.a) e) w.a;
     t = rw (ap (λ (r : Registers). r.t) e) w.t;
     x = rw (ap (λ (r : Registers). r.x) e) w.x;
@@ -113,57 +113,57 @@ module _ (m : Lh5801) (w : Widths m) where
 
   pub widths_halted : (v : Bool) → Widths (with_is_halted m v)
   unfolding with_is_halted
-  widths_halted v = same refl
+  widths_halted v = same_registers refl
 
   pub widths_pu : (v : Bool) → Widths (with_pu m v)
   unfolding with_pu
-  widths_pu v = same refl
+  widths_pu v = same_registers refl
 
   pub widths_pv : (v : Bool) → Widths (with_pv m v)
   unfolding with_pv
-  widths_pv v = same refl
+  widths_pv v = same_registers refl
 
   pub widths_bf : (v : Bool) → Widths (with_bf m v)
   unfolding with_bf
-  widths_bf v = same refl
+  widths_bf v = same_registers refl
 
   pub widths_disp : (v : Bool) → Widths (with_disp m v)
   unfolding with_disp
-  widths_disp v = same refl
+  widths_disp v = same_registers refl
 
   pub widths_tm : (v : ℕ) → Widths (with_tm m v)
   unfolding with_tm
-  widths_tm v = same refl
+  widths_tm v = same_registers refl
 
   pub widths_ir1 : (v : Bool) → Widths (with_ir1 m v)
   unfolding with_ir1
-  widths_ir1 v = same refl
+  widths_ir1 v = same_registers refl
 
   pub widths_ir2 : (v : Bool) → Widths (with_ir2 m v)
   unfolding with_ir2
-  widths_ir2 v = same refl
+  widths_ir2 v = same_registers refl
 
   pub widths_reached : (v : Bool) → Widths (with_is_timer_reached m v)
   unfolding with_is_timer_reached
-  widths_reached v = same refl
+  widths_reached v = same_registers refl
 
   pub widths_states : (v : ℕ) → Widths (with_timer_state m v)
   unfolding with_timer_state
-  widths_states v = same refl
+  widths_states v = same_registers refl
 
   pub widths_previous : (v : ℕ) → Widths (with_step_previous_state m v)
   unfolding with_step_previous_state
-  widths_previous v = same refl
+  widths_previous v = same_registers refl
 
   pub widths_ticks : (v : ℕ) → Widths (with_ticks m v)
   unfolding with_ticks
-  widths_ticks v = same refl
+  widths_ticks v = same_registers refl
 
   -- T with a flag set or cleared
   pub widths_flag : (mask : ℕ) → mask < 0x100 → (v : Bool) → Widths (with_t m (set_flag m.t mask v))
   widths_flag mask h v = widths_t _ (flag_byte m.t mask w.t h v)
 
-pub widths_sum : (m : Lh5801) → Widths m → (s : Sum ℕ) → Bytes s → Widths (with_sum m s)
+pub widths_sum : (m : Lh5801) → Widths m → (s : Sum ℕ) → SumBytes s → Widths (with_sum m s)
 widths_sum m w s h = widths_t (with_a m s.value) (widths_a m w s.value h.0) s.t h.1
 
 pub widths_lda : (m : Lh5801) → Widths m → (d : ℕ) → d < 0x100 → Widths (lda_of m d)

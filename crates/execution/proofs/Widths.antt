@@ -8,7 +8,7 @@ use Rattle.arithmetic.specs.Record.{with_t, with_x, with_u, with_s, with_p, with
 use Rattle.arithmetic.specs.Shifts.{looped_of}
 use Rattle.arithmetic.specs.Sums.{carry_of}
 use Rattle.arithmetic.specs.Widths.{Widths}
-use Rattle.arithmetic.proofs.Widths.{flag_byte, Bytes, add_bytes, aex_byte, drl_byte, drr_byte, looped_word, adr_word, widths_a, widths_t, widths_x, widths_y, widths_u, widths_s, widths_p, widths_halted, widths_pu, widths_pv, widths_bf, widths_disp, widths_tm, widths_ir1, widths_ir2, widths_reached, widths_previous, widths_flag, widths_sum, widths_lda, widths_adc, widths_sbc, widths_cpa, widths_dca, widths_dcs, widths_and, widths_ora, widths_eor, widths_bit, widths_left, widths_right, widths_tta}
+use Rattle.arithmetic.proofs.Widths.{flag_byte, SumBytes, add_bytes, aex_byte, drl_byte, drr_byte, looped_word, adr_word, widths_a, widths_t, widths_x, widths_y, widths_u, widths_s, widths_p, widths_halted, widths_pu, widths_pv, widths_bf, widths_disp, widths_tm, widths_ir1, widths_ir2, widths_reached, widths_previous, widths_flag, widths_sum, widths_lda, widths_adc, widths_sbc, widths_cpa, widths_dca, widths_dcs, widths_and, widths_ora, widths_eor, widths_bit, widths_left, widths_right, widths_tta}
 use Rattle.pages.specs.Pages.{Pages}
 use Rattle.pages.specs.Prog.{exec}
 use Rattle.pages.specs.Timer.{add_state_of}
@@ -52,7 +52,7 @@ address_fits v h Me0 = omega (arith, h)
 address_fits v h Me1 = omega (arith, h)
 
 -- a memory byte with an immediate, and T
-changed_bytes : (t : ℕ) (o : Change) (b v : ℕ) → t < 0x100 → b < 0x100 → v < 0x100 → Bytes (changed_of t o b v)
+changed_bytes : (t : ℕ) (o : Change) (b v : ℕ) → t < 0x100 → b < 0x100 → v < 0x100 → SumBytes (changed_of t o b v)
 changed_bytes t Ani b v h k l = (lt_of_le_of_lt (and_le_l b v) k, flag_byte t ZF h (omega arith) (eqb (bit_and b v) 0))
 changed_bytes t Ori b v h k l = (or_lt 8 b v k l, flag_byte t ZF h (omega arith) (eqb (bit_or b v) 0))
 changed_bytes t Adi b v h k l = add_bytes t b v false h

@@ -5,4 +5,4 @@ use Rattle.analyser.proofs.compare.Given as goal
 
 -- the answer is that of what is left of both, so many writes on
 abbrev pub invariant-loop-entry : goal.invariant-loop-entry
-invariant-loop-entry l = comparison_of l.log l.analyser ≡ ahead l.same (logged (drop l.entry-index l.log)) (caught (drop l.same l.analyser))
+invariant-loop-entry l = comparison_of l.log l.analyser ≡ ahead l.common (logged (drop l.entry-index l.log)) (caught (drop l.common l.analyser))

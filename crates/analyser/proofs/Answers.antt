@@ -1,38 +1,31 @@
--- What each answer says, and what changes none.
-use Rattle.std.proofs.Common.{◌≡◌, ℕ, suc, ◌+◌, ◌≤◌, ◌≢◌, ◌↔◌, Bool, true, false, cond, ◌&&◌, eqb, List, [], ◌∷◌, ◌++◌, length, get_or, drop, sym, refl, ap, ap₂, ◌∙◌, append-nil, append_assoc, length-append, add-zero, zero-add, le_refl, true≢false, eqb-true, eq-eqb, arith}
+-- What each answer says, and that its place is the length of the longest common beginning.
+use Rattle.std.proofs.Common.{◌≡◌, ℕ, ◌+◌, ◌≤◌, ◌≢◌, ◌↔◌, Bool, true, false, List, [], ◌∷◌, ◌++◌, length, sym, refl, ap, ap₂, ◌∙◌, append-nil, append_assoc, length-append, add-zero, zero-add, le_refl, arith}
+use mathlib.Core.List.{head-eq_of_cons-eq, tail-eq_of_cons-eq}
+use Rattle.std.specs.Bool.{Decides}
+use Rattle.std.proofs.lemmas.Bool.Decides.{Decides-eqb, Decides-and, Decides-like, not_from_Decides}
 use Rattle.pages.specs.Written.{Write}
 use Rattle.analyser.specs.declared.Comparison.{Comparison}
 use Rattle.analyser.specs.declared.Comparison.TheVariants.{Equal, Differ, LogEnded, AnalyserEnded}
-use Rattle.analyser.specs.Comparison.{logged, caught, same_write, common, parted, outcome, comparison_of, place_of}
-use Rattle.analyser.proofs.Outcome.{ahead, from_start, ahead_equal, ahead_common, ahead_differ, ahead_log_ended, ahead_analyser_ended}
+use Rattle.analyser.specs.Comparison.{writes_logged, writes_caught, same_write, comparison_of, place_of}
+use Rattle.analyser.proofs.Verdict.{ahead, from_start, ahead_equal, ahead_common, ahead_differ, ahead_log_ended, ahead_analyser_ended}
 use Rattle.analyser.specs.Answers.{Says, equal, differ, log_ended, analyser_ended, Begins, Longest}
 
 -- ---- the same address and byte
 
-both : (a b : Bool) → (a && b) ≡ true → (a ≡ true) × (b ≡ true)
-both true b e = (refl, e)
-both false b e = (e, absurd (true≢false (sym e)))
-
 pub write_is : {v w : Write} → v.address ≡ w.address → v.byte ≡ w.byte → v ≡ w
 write_is e f = ap₂ (λ a b. record { address = a; byte = b }) e f
 
-same_is : (v w : Write) → same_write v w ≡ true → v ≡ w
-same_is v w e =
-    let each = both (eqb v.address w.address) (eqb v.byte w.byte) e in
-    write_is (eqb-true v.address w.address each.0) (eqb-true v.byte w.byte each.1)
-
-same_self : (v : Write) → same_write v v ≡ true
-same_self v = rw (eq-eqb v.address v.address refl, eq-eqb v.byte v.byte refl) refl
+same_decides : (v w : Write) → Decides (same_write v w) (v ≡ w)
+same_decides v w =
+    Decides-like _ (λ e. write_is e.0 e.1) (λ e. (ap (λ (x : Write). x.address) e, ap (λ (x : Write). x.byte) e))
+    (Decides-and _ _ (Decides-eqb v.address w.address) (Decides-eqb v.byte w.byte))
 
 not_same : (v w : Write) → v ≢ w → same_write v w ≡ false
 not_same v w n = go (same_write v w) refl
   where
     go : (b : Bool) → same_write v w ≡ b → b ≡ false
-    go true e = absurd (n (same_is v w e))
+    go true e = absurd (n ((same_decides v w).0 e))
     go false e = refl
-
-differs : (v w : Write) → same_write v w ≡ false → v ≢ w
-differs v w e is = true≢false (sym (same_self w) ∙ rw is at e)
 
 -- ---- what the answer says
 
@@ -44,8 +37,12 @@ says_after first (v ∷ vs) (w ∷ ws) = go (same_write v w) refl (says_after (f
   where
     go : (b : Bool) → same_write v w ≡ b → Says ((first ++ v ∷ []) ++ vs) ((first ++ v ∷ []) ++ ws) (ahead (length (first ++ v ∷ [])) vs ws)
         → Says (first ++ v ∷ vs) (first ++ w ∷ ws) (ahead (length first) (v ∷ vs) (w ∷ ws))
-    go true e h = rw (ahead_common (length first) v w vs ws e, ← same_is v w e) (rw (append_assoc first (v ∷ []) vs, append_assoc first (v ∷ []) ws, length-append first (v ∷ [])) at h)
-    go false e h = rw (ahead_differ (length first) v w vs ws e) (differ first v w vs ws refl refl (differs v w e))
+    go true e h =
+        rw (ahead_common (length first) v w vs ws e, ← (same_decides v w).0 e)
+        (rw (append_assoc first (v ∷ []) vs, append_assoc first (v ∷ []) ws, length-append first (v ∷ [])) at h)
+    go false e h =
+        rw (ahead_differ (length first) v w vs ws e)
+        (differ first v w vs ws refl refl (not_from_Decides (same_write v w) (same_decides v w) e))
 
 -- ---- and no other answer says so
 
@@ -53,98 +50,75 @@ after_first : (n : ℕ) (first vs ws : List Write) → ahead n (first ++ vs) (fi
 after_first n [] vs ws = rw add-zero refl
 after_first n (v ∷ first) vs ws =
     let e : n + 1 + length first ≡ n + length (v ∷ first) = omega arith in
-    ahead_common n v v (first ++ vs) (first ++ ws) (same_self v) ∙ after_first (n + 1) first vs ws ∙ ap (λ k. ahead k vs ws) e
+    ahead_common n v v (first ++ vs) (first ++ ws) ((same_decides v v).1 refl) ∙ after_first (n + 1) first vs ws ∙ ap (λ k. ahead k vs ws) e
 
--- both begin with `first`, and then comes c
-then : (ours theirs first vs ws : List Write) (c : ℕ → Comparison) → ours ≡ first ++ vs → theirs ≡ first ++ ws → ((n : ℕ) → ahead n vs ws ≡ c n)
+-- where both begin with `first`, and the answer for the rest is c at any length, it is c at the length of `first`
+begun : (ours theirs first vs ws : List Write) (c : ℕ → Comparison) → ours ≡ first ++ vs → theirs ≡ first ++ ws → ((n : ℕ) → ahead n vs ws ≡ c n)
     → ahead 0 ours theirs ≡ c (length first)
-then ours theirs first vs ws c e f h = rw (e, f) (after_first 0 first vs ws ∙ rw zero-add (h (length first)))
+begun ours theirs first vs ws c e f h = rw (e, f) (after_first 0 first vs ws ∙ rw zero-add (h (length first)))
 
-said : (ours theirs : List Write) (c : Comparison) → Says ours theirs c → ahead 0 ours theirs ≡ c
-said ours theirs c (equal e) = then ours theirs theirs [] [] (λ n. Equal) (e ∙ sym (append-nil theirs)) (sym (append-nil theirs)) ahead_equal
-said ours theirs c (differ first v w vs ws e f n) =
-    then ours theirs first (v ∷ vs) (w ∷ ws) Differ e f (λ k. ahead_differ k v w vs ws (not_same v w n))
-said ours theirs c (log_ended w ws e) =
-    then ours theirs ours [] (w ∷ ws) LogEnded (sym (append-nil ours)) e (λ k. ahead_log_ended k w ws)
-said ours theirs c (analyser_ended v vs e) =
-    then ours theirs theirs (v ∷ vs) [] AnalyserEnded e (sym (append-nil theirs)) (λ k. ahead_analyser_ended k v vs)
+answered : (ours theirs : List Write) (c : Comparison) → Says ours theirs c → ahead 0 ours theirs ≡ c
+answered ours theirs c (equal e) = begun ours theirs theirs [] [] (λ n. Equal) (e ∙ sym (append-nil theirs)) (sym (append-nil theirs)) ahead_equal
+answered ours theirs c (differ first v w vs ws e f n) =
+    begun ours theirs first (v ∷ vs) (w ∷ ws) Differ e f (λ k. ahead_differ k v w vs ws (not_same v w n))
+answered ours theirs c (log_ended w ws e) =
+    begun ours theirs ours [] (w ∷ ws) LogEnded (sym (append-nil ours)) e (λ k. ahead_log_ended k w ws)
+answered ours theirs c (analyser_ended v vs e) =
+    begun ours theirs theirs (v ∷ vs) [] AnalyserEnded e (sym (append-nil theirs)) (λ k. ahead_analyser_ended k v vs)
+
+-- ---- the place is the length of the longest common beginning
+
+-- where the rests have no write in common, none is longer
+none_longer : (first vs ws : List Write) → ((other : List Write) → Begins other vs → Begins other ws → other ≡ [])
+    → (other : List Write) → Begins other (first ++ vs) → Begins other (first ++ ws) → length other ≤ length first
+none_longer [] vs ws h other a b = rw (h other a b) (le_refl 0)
+none_longer (v ∷ first) vs ws h [] a b = omega arith
+none_longer (v ∷ first) vs ws h (w ∷ other) a b =
+    omega (arith, none_longer first vs ws h other (a.0, tail-eq_of_cons-eq a.1) (b.0, tail-eq_of_cons-eq b.1))
+
+begins_none : (other : List Write) → Begins other [] → other ≡ []
+begins_none [] a = refl
+begins_none (v ∷ other) a = absurd (omega (arith, ap length a.1))
+
+begins_other : (v w : Write) (vs ws : List Write) → v ≢ w → (other : List Write) → Begins other (v ∷ vs) → Begins other (w ∷ ws) → other ≡ []
+begins_other v w vs ws n [] a b = refl
+begins_other v w vs ws n (x ∷ other) a b = absurd (n (head-eq_of_cons-eq a.1 ∙ sym (head-eq_of_cons-eq b.1)))
+
+-- both begin with `first`, and their rests have no write in common
+first_longest : (ours theirs first vs ws : List Write) → ours ≡ first ++ vs → theirs ≡ first ++ ws
+    → ((other : List Write) → Begins other vs → Begins other ws → other ≡ [])
+    → Longest ours theirs (length first)
+first_longest ours theirs first vs ws e f h =
+    rw (e, f) (record { first = first; in_ours = (vs, refl); in_theirs = (ws, refl); long = refl; most = none_longer first vs ws h })
+
+longest_of : (ours theirs : List Write) (c : Comparison) → Says ours theirs c → c ≢ Equal → Longest ours theirs (place_of c)
+longest_of ours theirs c (equal e) n = absurd (n refl)
+longest_of ours theirs c (differ first v w vs ws e f d) n = first_longest ours theirs first (v ∷ vs) (w ∷ ws) e f (begins_other v w vs ws d)
+longest_of ours theirs c (log_ended w ws e) n =
+    first_longest ours theirs ours [] (w ∷ ws) (sym (append-nil ours)) e (λ other a b. begins_none other a)
+longest_of ours theirs c (analyser_ended v vs e) n =
+    first_longest ours theirs theirs (v ∷ vs) [] e (sym (append-nil theirs)) (λ other a b. begins_none other b)
 
 module _ (log analyser : List ℕ) where
   abbrev ours : List Write
-  ours = logged log
+  ours = writes_logged log
 
   abbrev theirs : List Write
-  theirs = caught analyser
+  theirs = writes_caught analyser
 
   -- each answer is given exactly where what it says is so
   pub answer_iff : (c : Comparison) → comparison_of log analyser ≡ c ↔ Says ours theirs c
   answer_iff c = (
     λ e. rw (← e, from_start ours theirs) (says_after [] ours theirs),
-    λ s. from_start ours theirs ∙ said ours theirs c s,
+    λ s. from_start ours theirs ∙ answered ours theirs c s,
   )
 
   -- "'Equal' is given precisely for the same sequence of writes"
   pub equal_iff : comparison_of log analyser ≡ Equal ↔ (ours ≡ theirs)
-  equal_iff = (
-    λ e. is ours theirs ((answer_iff Equal).0 e),
-    λ e. (answer_iff Equal).1 (equal e),
-  )
+  equal_iff = (λ e. equal_says ours theirs ((answer_iff Equal).0 e), λ e. (answer_iff Equal).1 (equal e))
     where
-      is : (l k : List Write) → Says l k Equal → l ≡ k
-      is l k (equal e) = e
+      equal_says : (l k : List Write) → Says l k Equal → l ≡ k
+      equal_says l k (equal e) = e
 
--- ---- the place is the length of the longest common beginning
-
-first_equal : {v w : Write} {vs ws : List Write} → v ∷ vs ≡ w ∷ ws → v ≡ w
-first_equal {v} e = ap (λ l. get_or l 0 v) e
-
--- where one of them has ended, or the first writes differ
-none_common : {vs ws : List Write} → ((first : List Write) → Begins first vs → Begins first ws → first ≡ []) → Longest vs ws 0
-none_common {vs} {ws} h = record {
-  first = [];
-  in_ours = (vs, refl);
-  in_theirs = (ws, refl);
-  long = refl;
-  most = λ other a b. rw (h other a b) (le_refl 0);
-}
-
-no_more : (first : List Write) → Begins first [] → first ≡ []
-no_more [] a = refl
-no_more (v ∷ first) a = absurd (omega (arith, ap length a.1))
-
-longest_same : {vs ws : List Write} {n : ℕ} (v : Write) → Longest vs ws n → Longest (v ∷ vs) (v ∷ ws) (suc n)
-longest_same {vs} {ws} {n} v h = record {
-  first = v ∷ h.first;
-  in_ours = (h.in_ours.0, ap (λ l. v ∷ l) h.in_ours.1);
-  in_theirs = (h.in_theirs.0, ap (λ l. v ∷ l) h.in_theirs.1);
-  long = ap suc h.long;
-  most = most;
-}
-  where
-    most : (other : List Write) → Begins other (v ∷ vs) → Begins other (v ∷ ws) → length other ≤ suc n
-    most [] a b = omega arith
-    most (w ∷ other) a b = omega (arith, h.most other (a.0, ap (drop 1) a.1) (b.0, ap (drop 1) b.1))
-
-differ_at_once : (v w : Write) (vs ws : List Write) → v ≢ w → (first : List Write) → Begins first (v ∷ vs) → Begins first (w ∷ ws) → first ≡ []
-differ_at_once v w vs ws n [] a b = refl
-differ_at_once v w vs ws n (x ∷ first) a b = absurd (n (first_equal a.1 ∙ sym (first_equal b.1)))
-
-longest : (vs ws : List Write) → Longest vs ws (common vs ws)
-unfolding common
-longest [] ws = none_common (λ first a b. no_more first a)
-longest (v ∷ vs) [] = none_common (λ first a b. no_more first b)
-longest (v ∷ vs) (w ∷ ws) = go (same_write v w) refl (longest vs ws)
-  where
-    go : (b : Bool) → same_write v w ≡ b → Longest vs ws (common vs ws) → Longest (v ∷ vs) (w ∷ ws) (cond b (suc (common vs ws)) 0)
-    go true e h = rw (same_is v w e) (longest_same w h)
-    go false e h = none_common (differ_at_once v w vs ws (differs v w e))
-
-place_is : (vs ws : List Write) (n : ℕ) → parted vs ws n ≢ Equal → place_of (parted vs ws n) ≡ n
-place_is [] [] n h = absurd (h refl)
-place_is [] (w ∷ ws) n h = refl
-place_is (v ∷ vs) [] n h = refl
-place_is (v ∷ vs) (w ∷ ws) n h = refl
-
-pub place_longest : (log analyser : List ℕ) → comparison_of log analyser ≢ Equal → Longest (logged log) (caught analyser) (place_of (comparison_of log analyser))
-unfolding outcome
-place_longest log analyser h = rw (place_is _ _ _ h) (longest (logged log) (caught analyser))
+  pub place_longest : comparison_of log analyser ≢ Equal → Longest ours theirs (place_of (comparison_of log analyser))
+  place_longest n = longest_of ours theirs _ ((answer_iff _).0 refl) n

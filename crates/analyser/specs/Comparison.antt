@@ -8,18 +8,18 @@ use Rattle.analyser.specs.declared.Comparison.TheVariants.{Equal, Differ, LogEnd
 abbrev pub is_write : ℕ → Bool
 is_write entry = entry / 0x2000000 % 2 == 1
 
--- the write that an entry is of: bits 24 to 8 are its address, bits 7 to 0 its byte, and no other bit is looked at
+-- the write in an entry: bits 24 to 8 are its address, bits 7 to 0 its byte, and no other bit is looked at
 abbrev pub write_in : ℕ → Write
 write_in entry = record { address = entry / 256 % 0x20000; byte = entry % 256 }
 
 -- the writes of our log, in order: "reads between them never matter"
-unfoldable pub logged : List ℕ → List Write
-logged [] = []
-logged (entry ∷ entries) = cond (is_write entry) (write_in entry ∷ logged entries) (logged entries)
+unfoldable pub writes_logged : List ℕ → List Write
+writes_logged [] = []
+writes_logged (entry ∷ entries) = cond (is_write entry) (write_in entry ∷ writes_logged entries) (writes_logged entries)
 
 -- the writes of the analyser, which "catches writes alone": each of its entries is one
-abbrev pub caught : List ℕ → List Write
-caught entries = map write_in entries
+abbrev pub writes_caught : List ℕ → List Write
+writes_caught entries = map write_in entries
 
 -- the same address and the same byte
 abbrev pub same_write : Write → Write → Bool
@@ -39,14 +39,14 @@ parted (v ∷ vs) [] n = AnalyserEnded n
 parted (v ∷ vs) (w ∷ ws) n = Differ n
 
 -- "the first place where they part, counted in writes from 0, with whichever list ended there named"
-unfoldable pub outcome : List Write → List Write → Comparison
-outcome ours theirs =
+unfoldable pub verdict : List Write → List Write → Comparison
+verdict ours theirs =
     let n : ℕ = common ours theirs in
     parted (drop n ours) (drop n theirs) n
 
 -- our log, handed in as its used entries, against the analyser's list
 abbrev pub comparison_of : List ℕ → List ℕ → Comparison
-comparison_of log analyser = outcome (logged log) (caught analyser)
+comparison_of log analyser = verdict (writes_logged log) (writes_caught analyser)
 
 -- the number of an answer, and its place, in C
 abbrev pub number_of : Comparison → ℕ

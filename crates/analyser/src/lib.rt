@@ -4,12 +4,16 @@
 ghost use Rattle.std.specs.Prelude.{◌≡◌};
 ghost use Rattle.analyser.specs.Comparison.{is_write, write_in, same_write, comparison_of, number_of, place_of};
 
-/// What the comparison says. A place is counted in writes, from 0: so many writes were the same.
+/// What the comparison says. A place is counted in writes, from 0: it is how many writes before it are the same.
 #[derive(Clone, Copy)]
 pub enum Comparison {
+    /// Both have the same writes in the same order.
     Equal,
+    /// The writes at the place are not the same.
     Differ(usize),
+    /// At the place the log has no write left, and the analyser's list has.
     LogEnded(usize),
+    /// At the place the analyser's list has ended, and the log has a write.
     AnalyserEnded(usize),
 }
 
@@ -53,7 +57,7 @@ fn same_write(entry: u32, other: u32) -> bool
 }
 
 /// The writes of our log, in order, against the analyser's entries.
-#[tactic(auto, using(crate::proofs::Outcome::from_start, crate::proofs::Outcome::turn_read, crate::proofs::Outcome::turn_common, crate::proofs::Outcome::turn_differ, crate::proofs::Outcome::turn_ended, crate::proofs::Outcome::end_left, crate::proofs::Outcome::end_equal))]
+#[tactic(auto, using(crate::proofs::Verdict::from_start, crate::proofs::Verdict::turn_read, crate::proofs::Verdict::turn_common, crate::proofs::Verdict::turn_differ, crate::proofs::Verdict::turn_ended, crate::proofs::Verdict::end_left, crate::proofs::Verdict::end_equal))]
 pub fn compare(log: &[u32], analyser: &[u32]) -> Comparison
     ensures { result ≡ comparison_of log.now analyser.now }
 {

@@ -70,7 +70,7 @@ abbrev registers_of : Lh5801 → Registers
 registers_of m = record { a = m.a; t = m.t; x = m.x; y = m.y; u = m.u; s = m.s; p = m.p }
 
 module _ (m : Lh5801) (w : Widths m) where
-  -- another value of the same_registers width in a register
+  -- another value of the same width in a register
   pub widths_a : (v : ℕ) → v < 0x100 → Widths (with_a m v)
   unfolding with_a
   widths_a v h = record { a = h; t = w.t; x = w.x; y = w.y; u = w.u; s = w.s; p = w.p }

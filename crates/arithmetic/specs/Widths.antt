@@ -1,4 +1,4 @@
--- The widths of the registers (document 01, "Record and pages"), as the other definitions are over numbers of any size.
+-- The widths of the registers (document 01, "Record and pages"); the other definitions are over numbers of any size.
 use Rattle.std.specs.Prelude.{◌<◌}
 use Rattle.arithmetic.specs.declared.record.Lh5801.{Lh5801}
 

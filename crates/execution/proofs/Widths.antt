@@ -12,9 +12,9 @@ use Rattle.arithmetic.proofs.Widths.{flag_byte, SumBytes, add_bytes, aex_byte, d
 use Rattle.pages.specs.Pages.{Pages}
 use Rattle.pages.specs.Prog.{exec}
 use Rattle.pages.specs.Timer.{add_state_of}
-use Rattle.pages.specs.Widths.{AllBytes, RanInWidth}
+use Rattle.pages.specs.Widths.{AllBytes}
 use Rattle.pages.specs.declared.Code.{Code}
-use Rattle.pages.proofs.Widths.{InWidth, width_exec, width_bind, width_read, width_write, Coded, width_readop, width_readop_word, width_mem16, width_pop_word, width_push, width_pop, width_push_word, width_accept, widths_add_state, widths_timer_part}
+use Rattle.pages.proofs.Widths.{InWidth, RanInWidth, width_exec, width_bind, width_read, width_write, Coded, width_readop, width_readop_word, width_mem16, width_pop_word, width_push, width_pop, width_push_word, width_accept, widths_add_state, widths_timer_part}
 use Rattle.execution.specs.declared.Inputs.{Inputs}
 use Rattle.execution.specs.declared.Opcode.{Opcode}
 use Rattle.execution.specs.declared.places.Register.{Register}

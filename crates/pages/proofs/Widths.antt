@@ -8,10 +8,10 @@ use Rattle.arithmetic.proofs.Widths.{flag_byte, widths_t, widths_s, widths_p, wi
 use Rattle.pages.specs.declared.Code.{Code}
 use Rattle.pages.specs.declared.Popped.{Popped}
 use Rattle.pages.specs.Pages.{Pages, at, stored, store}
-use Rattle.pages.specs.Prog.{Access, Prog, done, get, put, ◌>>=◌, read, write, write_of, after, exec}
+use Rattle.pages.specs.Prog.{Access, Ran, Prog, done, get, put, ◌>>=◌, read, write, write_of, after, exec}
 use Rattle.pages.specs.Stack.{readop_of, readop_word_of, mem16_of, push_of, push_word_of, pop_of, pop_word_of, push_state_of, accept_of}
 use Rattle.pages.specs.Timer.{timer_inc_of, add_state_of, passed_of, timer_part_of}
-use Rattle.pages.specs.Widths.{AllBytes, Fits, AllFit, RanInWidth}
+use Rattle.pages.specs.Widths.{AllBytes, AccessFits, AllFit}
 use Rattle.pages.proofs.Pages.{at_store}
 
 -- a byte written into pages that hold bytes
@@ -31,7 +31,13 @@ fit_append (x ∷ k) l f g = (f.0, fit_append k l f.1 g)
 abbrev pub InWidth : {A : Type 0} → (A → Type 0) → Prog A → Type 0
 InWidth P (done a) = P a
 InWidth P (get a k) = (a < 0x20000) × ((b : ℕ) → b < 0x100 → InWidth P (k b))
-InWidth P (put a v p) = Fits (write_of a v) × InWidth P p
+InWidth P (put a v p) = AccessFits (write_of a v) × InWidth P p
+
+-- what a program comes to: its answer has P, each of its accesses fits, and the pages after it hold bytes
+pub record RanInWidth {A : Type 0} (P : A → Type 0) (r : Ran A) : Type 0 where
+  pub answer : P r.answer
+  pub accesses : AllFit r.accesses
+  pub pages : AllBytes r.pages
 
 -- so it is on pages that hold bytes, and they hold bytes after it
 pub width_exec : {A : Type 0} (P : A → Type 0) (p : Prog A) → InWidth P p → (m : Pages) → AllBytes m → RanInWidth P (exec p m)
@@ -59,7 +65,7 @@ pub width_read : {A : Type 0} (P : A → Type 0) (a : ℕ) (f : ℕ → Prog A) 
 unfolding read ◌>>=◌
 width_read P a f h g = (h, g)
 
-pub width_write : {A : Type 0} (P : A → Type 0) (a v : ℕ) (f : Unit {0} → Prog A) → Fits (write_of a v) → InWidth P (f tt) → InWidth P (write a v >>= f)
+pub width_write : {A : Type 0} (P : A → Type 0) (a v : ℕ) (f : Unit {0} → Prog A) → AccessFits (write_of a v) → InWidth P (f tt) → InWidth P (write a v >>= f)
 unfolding write ◌>>=◌
 width_write P a v f h g = (h, g)
 

@@ -75,14 +75,15 @@ module _ (s : Settings) (log : Log) (m : Lh5801) (p : Pages) where
     omega (arith, call_fits),
   )
 
-  pub call_beyond : length log.entries < log.used → with_entries log bus ≡ log
-  call_beyond h =
-      let z : bus ≡ [] = none_there bus (omega (arith, call_fits)) in
-      rw z (appended_none log)
+  pub beyond_none : length log.entries < log.used → bus ≡ []
+  beyond_none h = none_there bus (omega (arith, call_fits))
     where
       none_there : (l : List Access) → length l ≡ 0 → l ≡ []
       none_there [] e = refl
       none_there (x ∷ l) e = absurd (omega arith)
+
+  pub call_beyond : length log.entries < log.used → with_entries log bus ≡ log
+  call_beyond h = rw (beyond_none h) (appended_none log)
 
 -- where a list and a count are not lent as a log they are as they were
 pub call_unlogged : (s : Settings) (lent : Bool) (log : Log) (m : Lh5801) (p : Pages) → lent ≡ false

@@ -4,15 +4,15 @@ use Rattle.std.specs.Prelude.{slice_index_or}
 use Rattle.pages.specs.Written.{Write}
 use Rattle.analyser.specs.declared.Comparison.{Comparison}
 use Rattle.analyser.specs.declared.Comparison.TheVariants.{Equal, Differ, LogEnded, AnalyserEnded}
-use Rattle.analyser.specs.Comparison.{is_write, write_in, logged, caught, same_write, common, parted, outcome}
+use Rattle.analyser.specs.Comparison.{is_write, write_in, writes_logged, writes_caught, same_write, common, parted, verdict}
 
 -- the answer where n writes were the same before
 unfoldable pub ahead : ℕ → List Write → List Write → Comparison
 ahead n vs ws = parted (drop (common vs ws) vs) (drop (common vs ws) ws) (n + common vs ws)
 
 -- of all of both
-pub from_start : (vs ws : List Write) → outcome vs ws ≡ ahead 0 vs ws
-unfolding outcome ahead
+pub from_start : (vs ws : List Write) → verdict vs ws ≡ ahead 0 vs ws
+unfolding verdict ahead
 from_start vs ws = rw zero-add refl
 
 -- by the first writes of what is left
@@ -42,18 +42,18 @@ ahead_analyser_ended n v vs = rw add-zero refl
 entry_first : (l : List ℕ) (i : ℕ) → i < length l → drop i l ≡ slice_index_or l i 0 ∷ drop (i + 1) l
 entry_first l i h = rw add-one (drop-cons l i 0 h)
 
--- a turn over the entry at i of the log, where n writes were the same_write
+-- a turn over the entry at i of the log, where n writes were the same
 module _ (log analyser : List ℕ) (i n : ℕ) where
   abbrev left : ℕ → ℕ → Comparison
-  left i n = ahead n (logged (drop i log)) (caught (drop n analyser))
+  left i n = ahead n (writes_logged (drop i log)) (writes_caught (drop n analyser))
 
   logged_write : i < length log → is_write (slice_index_or log i 0) ≡ true
-      → logged (drop i log) ≡ write_in (slice_index_or log i 0) ∷ logged (drop (i + 1) log)
-  unfolding logged
+      → writes_logged (drop i log) ≡ write_in (slice_index_or log i 0) ∷ writes_logged (drop (i + 1) log)
+  unfolding writes_logged
   logged_write h e = rw (entry_first log i h, e) refl
 
   pub turn_read : i < length log → is_write (slice_index_or log i 0) ≡ false → left i n ≡ left (i + 1) n
-  unfolding logged
+  unfolding writes_logged
   turn_read h e = rw (entry_first log i h, e) refl
 
   pub turn_common : i < length log → n < length analyser → is_write (slice_index_or log i 0) ≡ true
@@ -71,9 +71,9 @@ module _ (log analyser : List ℕ) (i n : ℕ) where
 
   -- after the last entry
   pub end_left : length log ≤ i → n < length analyser → left i n ≡ LogEnded n
-  unfolding logged
+  unfolding writes_logged
   end_left h k = rw (drop_of_length-le log h, entry_first analyser n k) (ahead_log_ended n _ _)
 
   pub end_equal : length log ≤ i → length analyser ≤ n → left i n ≡ Equal
-  unfolding logged
+  unfolding writes_logged
   end_equal h k = rw (drop_of_length-le log h, drop_of_length-le analyser k) (ahead_equal n)

@@ -135,7 +135,9 @@
  *     3  LH5801_ANALYSER_ENDED  at the place the analyser's list has ended, and the log has a write
  *
  * The pointers are not null and aligned as uint32_t is; for an empty list pass the length 0 and any
- * such pointer. The lists may overlap.
+ * such pointer. Each list has at least so many entries, all of them initialised, and nobody writes to
+ * them during the call; they may overlap. A used count that is beyond its list, which the run call
+ * answers with 11, is not one to pass: that log has no used entries to compare.
  */
 #ifndef LH5801_H
 #define LH5801_H

@@ -119,14 +119,14 @@ oracle analyser N [--seed S]
 Compares N pairs of lists by the port's lh5801_compare and by the oracle's own comparison, which is
 written from document 02, F-3: our log, and the list of an analyser that catches writes alone. Then
 all reads are taken out of our log, and one read is put in at its beginning, at its end and somewhere
-within, and each time the answer has to stay. Neither list may be changed. Directed pairs come first: each of
-the 32 bits of each entry turned, lists of 0 to 8 writes with every common beginning, the same write
-again and again, and each entry doubled, dropped, exchanged or changed. Then come random ones; one of
-16 is what the port logs in a random call, beside the writes that the original makes in it, as they
-are or with one write changed, dropped or added, so that the answer is known. Prints the pairs by
-answer, by kind, by the bit that is turned and by what their lists have; where N is 10,000 or more and
-one of these was never met it ends with status 1. At a difference it prints the smallest failing pair
-it finds and ends with status 1. It wants the feature `port`.
+within, and each time the answer has to stay. Neither list may be changed. Directed pairs come first:
+each of the 32 bits of each entry turned, lists of 0 to 8 writes with every common beginning, the
+same write again and again, and each entry doubled, dropped, exchanged or changed. Then come random
+ones; one of 16 is what the port logs in a random call, beside the writes that the original makes in
+it, as they are or with one write changed, dropped or added, so that the answer is known. Prints the
+pairs by answer, by kind, by the bit that is turned and by what their lists have; where N is 10,000
+or more and one of these was never met it ends with status 1. At a difference it prints the smallest
+failing pair it finds and ends with status 1. It wants the feature `port`.
 
 --seed S   the seed, a decimal number; 1 without it
 ";

@@ -35,31 +35,37 @@ pub enum Kind {
 
 use Kind::*;
 
-/// All kinds in words, in their order.
-pub const TITLES: [&str; 22] = [
-    "both empty",
-    "reads alone against an empty list",
-    "the same writes",
-    "our log cut at the beginning",
-    "our log cut within",
-    "our log cut at the end",
-    "the analyser's list cut at the beginning",
-    "the analyser's list cut within",
-    "the analyser's list cut at the end",
-    "one bit of a write of ours",
-    "one bit of a read of ours",
-    "one bit of the analyser's",
-    "an entry doubled",
-    "an entry dropped",
-    "two neighbours exchanged",
-    "the same write again and again",
-    "the last write alone differs",
-    "two lists of their own",
-    "a real log",
-    "a real log, one write changed",
-    "a real log, one write dropped",
-    "a real log, one write added",
+/// All kinds in their order, with what they are in words.
+pub const KINDS: [(Kind, &str); 22] = [
+    (BothEmpty, "both empty"),
+    (ReadsAlone, "reads alone against an empty list"),
+    (Faithful, "the same writes"),
+    (OursCutBefore, "our log cut at the beginning"),
+    (OursCutWithin, "our log cut within"),
+    (OursCutBehind, "our log cut at the end"),
+    (TheirsCutBefore, "the analyser's list cut at the beginning"),
+    (TheirsCutWithin, "the analyser's list cut within"),
+    (TheirsCutBehind, "the analyser's list cut at the end"),
+    (BitOfWrite, "one bit of a write of ours"),
+    (BitOfRead, "one bit of a read of ours"),
+    (BitOfTheirs, "one bit of the analyser's"),
+    (Doubled, "an entry doubled"),
+    (Dropped, "an entry dropped"),
+    (Exchanged, "two neighbours exchanged"),
+    (SameWrite, "the same write again and again"),
+    (LastDiffers, "the last write alone differs"),
+    (Unrelated, "two lists of their own"),
+    (RealFaithful, "a real log"),
+    (RealChanged, "a real log, one write changed"),
+    (RealDropped, "a real log, one write dropped"),
+    (RealAdded, "a real log, one write added"),
 ];
+
+impl Kind {
+    pub fn title(self) -> &'static str {
+        KINDS[self as usize].1
+    }
+}
 
 /// The kinds without a real log, those more often of which more is to be met.
 const OFTEN: [Kind; 27] = [
@@ -303,7 +309,7 @@ fn change_last(random: &mut Random, list: &mut [u32], is_ours: bool) {
 
 #[cfg(test)]
 mod tests {
-    use super::{made, Kind, TITLES};
+    use super::{made, Kind, KINDS};
     use crate::pair::{is_write, Pair, DIFFER, EQUAL};
     use crate::random::Random;
 
@@ -312,10 +318,10 @@ mod tests {
     }
 
     #[test]
-    fn the_titles_are_in_the_order_of_the_kinds() {
-        assert_eq!(TITLES[Kind::BothEmpty as usize], "both empty");
-        assert_eq!(TITLES[Kind::BitOfRead as usize], "one bit of a read of ours");
-        assert_eq!(TITLES[Kind::RealAdded as usize], "a real log, one write added");
+    fn each_kind_is_at_its_place() {
+        for (place, (kind, _)) in KINDS.into_iter().enumerate() {
+            assert_eq!(kind as usize, place);
+        }
     }
 
     #[test]

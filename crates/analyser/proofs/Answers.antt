@@ -1,24 +1,14 @@
 -- What each answer says, and that its place is the length of the longest common beginning.
-use Rattle.std.proofs.Common.{◌≡◌, ℕ, ◌+◌, ◌≤◌, ◌≢◌, ◌↔◌, Bool, true, false, List, [], ◌∷◌, ◌++◌, length, sym, refl, ap, ap₂, ◌∙◌, append-nil, append_assoc, length-append, add-zero, zero-add, le_refl, arith}
+use Rattle.std.proofs.Common.{◌≡◌, ℕ, ◌+◌, ◌≤◌, ◌≢◌, ◌↔◌, Bool, true, false, List, [], ◌∷◌, ◌++◌, length, sym, refl, ap, ◌∙◌, append-nil, append_assoc, length-append, add-zero, zero-add, le_refl, arith}
 use mathlib.Core.List.{head-eq_of_cons-eq, tail-eq_of_cons-eq}
-use Rattle.std.specs.Bool.{Decides}
-use Rattle.std.proofs.lemmas.Bool.Decides.{Decides-eqb, Decides-and, Decides-like, not_from_Decides}
+use Rattle.std.proofs.lemmas.Bool.Decides.{not_from_Decides}
 use Rattle.pages.specs.Written.{Write}
 use Rattle.analyser.specs.declared.Comparison.{Comparison}
 use Rattle.analyser.specs.declared.Comparison.TheVariants.{Equal, Differ, LogEnded, AnalyserEnded}
 use Rattle.analyser.specs.Comparison.{writes_logged, writes_caught, same_write, comparison_of, place_of}
+use Rattle.analyser.proofs.Writes.{same_decides}
 use Rattle.analyser.proofs.Verdict.{ahead, from_start, ahead_equal, ahead_common, ahead_differ, ahead_log_ended, ahead_analyser_ended}
 use Rattle.analyser.specs.Answers.{Says, equal, differ, log_ended, analyser_ended, Begins, Longest}
-
--- ---- the same address and byte
-
-pub write_is : {v w : Write} → v.address ≡ w.address → v.byte ≡ w.byte → v ≡ w
-write_is e f = ap₂ (λ a b. record { address = a; byte = b }) e f
-
-same_decides : (v w : Write) → Decides (same_write v w) (v ≡ w)
-same_decides v w =
-    Decides-like _ (λ e. write_is e.0 e.1) (λ e. (ap (λ (x : Write). x.address) e, ap (λ (x : Write). x.byte) e))
-    (Decides-and _ _ (Decides-eqb v.address w.address) (Decides-eqb v.byte w.byte))
 
 not_same : (v w : Write) → v ≢ w → same_write v w ≡ false
 not_same v w n = go (same_write v w) refl

@@ -1,4 +1,4 @@
-pub mod Marks
+pub mod Writes
 pub mod Verdict
 pub mod Answers
 pub mod Unchanged

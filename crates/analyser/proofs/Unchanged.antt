@@ -4,7 +4,7 @@ use Rattle.pages.specs.Written.{Write}
 use Rattle.analyser.specs.declared.Comparison.TheVariants.{Equal}
 use Rattle.analyser.specs.Comparison.{is_write, write_in, writes_logged, writes_caught, common, verdict, comparison_of}
 use Rattle.analyser.specs.Answers.{AllReads}
-use Rattle.analyser.proofs.Answers.{write_is}
+use Rattle.analyser.proofs.Writes.{write_is}
 
 pub logged_append : (k l : List ℕ) → writes_logged (k ++ l) ≡ writes_logged k ++ writes_logged l
 unfolding writes_logged

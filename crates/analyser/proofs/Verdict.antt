@@ -1,6 +1,7 @@
 -- Laws of the answer by what is left of the two sequences of writes, and of a turn over the log's entries.
-use Rattle.std.proofs.Common.{◌≡◌, ℕ, suc, ◌+◌, ◌<◌, ◌≤◌, true, false, List, [], ◌∷◌, length, drop, refl, arith, add-zero, zero-add, add-one, drop-cons, drop_of_length-le}
+use Rattle.std.proofs.Common.{◌≡◌, ℕ, suc, ◌+◌, ◌<◌, ◌≤◌, Bool, true, false, not, ◌&&◌, List, [], ◌∷◌, length, drop, sym, refl, true≢false, arith, add-zero, zero-add, add-one, drop-cons, drop_of_length-le}
 use Rattle.std.specs.Prelude.{slice_index_or}
+use mir.Val.{bool_byte}
 use Rattle.pages.specs.Written.{Write}
 use Rattle.analyser.specs.declared.Comparison.{Comparison}
 use Rattle.analyser.specs.declared.Comparison.TheVariants.{Equal, Differ, LogEnded, AnalyserEnded}
@@ -42,6 +43,11 @@ ahead_analyser_ended n v vs = rw add-zero refl
 entry_first : (l : List ℕ) (i : ℕ) → i < length l → drop i l ≡ slice_index_or l i 0 ∷ drop (i + 1) l
 entry_first l i h = rw add-one (drop-cons l i 0 h)
 
+write_differs : (w s : Bool) → (w && not s) ≡ true → (w ≡ true) × (s ≡ false)
+write_differs true false e = (refl, refl)
+write_differs true true e = absurd (true≢false (sym e))
+write_differs false s e = absurd (true≢false (sym e))
+
 -- a turn over the entry at i of the log, where n writes were the same
 module _ (log analyser : List ℕ) (i n : ℕ) where
   abbrev left : ℕ → ℕ → Comparison
@@ -52,19 +58,39 @@ module _ (log analyser : List ℕ) (i n : ℕ) where
   unfolding writes_logged
   logged_write h e = rw (entry_first log i h, e) refl
 
-  pub turn_read : i < length log → is_write (slice_index_or log i 0) ≡ false → left i n ≡ left (i + 1) n
+  -- it is counted where it is a write
+  read_next : i < length log → is_write (slice_index_or log i 0) ≡ false → left i n ≡ left (i + 1) n
   unfolding writes_logged
-  turn_read h e = rw (entry_first log i h, e) refl
+  read_next h e = rw (entry_first log i h, e) refl
 
-  pub turn_common : i < length log → n < length analyser → is_write (slice_index_or log i 0) ≡ true
+  write_next : i < length log → n < length analyser → is_write (slice_index_or log i 0) ≡ true
       → same_write (write_in (slice_index_or log i 0)) (write_in (slice_index_or analyser n 0)) ≡ true
       → left i n ≡ left (i + 1) (n + 1)
-  turn_common h k e s = rw (logged_write h e, entry_first analyser n k) (ahead_common n _ _ _ _ s)
+  write_next h k e s = rw (logged_write h e, entry_first analyser n k) (ahead_common n _ _ _ _ s)
 
-  pub turn_differ : i < length log → n < length analyser → is_write (slice_index_or log i 0) ≡ true
-      → same_write (write_in (slice_index_or log i 0)) (write_in (slice_index_or analyser n 0)) ≡ false
+  pub turn_read : (m : ℕ) → i < length log → is_write (slice_index_or log i 0) ≡ false → m ≡ bool_byte (is_write (slice_index_or log i 0))
+      → left i n ≡ left (i + 1) (n + m)
+  turn_read m h e c = rw (c, e, add-zero) (read_next h e)
+
+  pub turn_next : (m : ℕ) → i < length log → n < length analyser
+      → (is_write (slice_index_or log i 0) && not (same_write (write_in (slice_index_or log i 0)) (write_in (slice_index_or analyser n 0)))) ≡ false
+      → m ≡ bool_byte (is_write (slice_index_or log i 0))
+      → left i n ≡ left (i + 1) (n + m)
+  turn_next m h k d c = go (is_write (slice_index_or log i 0)) refl (same_write (write_in (slice_index_or log i 0)) (write_in (slice_index_or analyser n 0))) refl
+    where
+      go : (b : Bool) → is_write (slice_index_or log i 0) ≡ b
+          → (t : Bool) → same_write (write_in (slice_index_or log i 0)) (write_in (slice_index_or analyser n 0)) ≡ t
+          → left i n ≡ left (i + 1) (n + m)
+      go false e t s = turn_read m h e c
+      go true e true s = rw (c, e) (write_next h k e s)
+      go true e false s = absurd (true≢false (rw (e, s) at d))
+
+  pub turn_differ : i < length log → n < length analyser
+      → (is_write (slice_index_or log i 0) && not (same_write (write_in (slice_index_or log i 0)) (write_in (slice_index_or analyser n 0)))) ≡ true
       → left i n ≡ Differ n
-  turn_differ h k e s = rw (logged_write h e, entry_first analyser n k) (ahead_differ n _ _ _ _ s)
+  turn_differ h k d =
+      let each = write_differs _ _ d in
+      rw (logged_write h each.0, entry_first analyser n k) (ahead_differ n _ _ _ _ each.1)
 
   pub turn_ended : i < length log → length analyser ≤ n → is_write (slice_index_or log i 0) ≡ true → left i n ≡ AnalyserEnded n
   turn_ended h k e = rw (logged_write h e, drop_of_length-le analyser k) (ahead_analyser_ended n _ _)

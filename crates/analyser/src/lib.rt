@@ -1,7 +1,7 @@
 //! The writes of a bus log against the list of an analyser that catches writes alone (document 02, F-3).
 #![tactic(auto)]
 
-ghost use Rattle.std.specs.Prelude.{◌≡◌};
+ghost use Rattle.std.specs.Prelude.{◌≡◌, ◌&&◌, not};
 ghost use Rattle.analyser.specs.Comparison.{is_write, write_in, same_write, comparison_of, number_of, place_of};
 
 /// What the comparison says. A place is counted in writes, from 0: it is how many writes before it are the same.
@@ -42,33 +42,34 @@ impl Comparison {
 }
 
 // Bit 25 of an entry of the log marks a write.
-#[tactic(auto, using(crate::proofs::Marks::mark))]
+#[tactic(auto, using(crate::proofs::Writes::mark))]
 fn is_write(entry: u32) -> bool
     ensures { result ≡ is_write entry }
 {
     entry & 0x2000000 != 0
 }
 
-// Two entries have the same address and byte.
-fn same_write(entry: u32, other: u32) -> bool
-    ensures { result ≡ same_write (write_in entry) (write_in other) }
+// An entry of the log is a write, and not the same as the analyser's. The sum has bit 25 exactly where the low bits are not the same, so one test
+// says it of reads and writes alike.
+#[tactic(auto, using(crate::proofs::Writes::differs_mark))]
+fn differs(entry: u32, other: u32) -> bool
+    ensures { result ≡ (is_write entry && not (same_write (write_in entry) (write_in other))) }
 {
-    entry % 0x2000000 == other % 0x2000000
+    let apart = entry.wrapping_sub(other) % 0x2000000;
+    (apart + 0x1ffffff) & entry & 0x2000000 != 0
 }
 
 /// The writes of our log, in order, against the analyser's entries.
-#[tactic(auto, using(crate::proofs::Verdict::from_start, crate::proofs::Verdict::turn_read, crate::proofs::Verdict::turn_common, crate::proofs::Verdict::turn_differ, crate::proofs::Verdict::turn_ended, crate::proofs::Verdict::end_left, crate::proofs::Verdict::end_equal))]
+#[tactic(auto, using(crate::proofs::Verdict::from_start, crate::proofs::Verdict::turn_read, crate::proofs::Verdict::turn_next, crate::proofs::Verdict::turn_differ, crate::proofs::Verdict::turn_ended, crate::proofs::Verdict::end_left, crate::proofs::Verdict::end_equal))]
 pub fn compare(log: &[u32], analyser: &[u32]) -> Comparison
     ensures { result ≡ comparison_of log.now analyser.now }
 {
     let mut common = 0;
     for &entry in log {
-        if is_write(entry) {
-            match analyser.get(common) {
-                None => return Comparison::AnalyserEnded(common),
-                Some(&other) if same_write(entry, other) => common += 1,
-                Some(_) => return Comparison::Differ(common),
-            }
+        match analyser.get(common) {
+            Some(&other) if differs(entry, other) => return Comparison::Differ(common),
+            None if is_write(entry) => return Comparison::AnalyserEnded(common),
+            _ => common += usize::from(is_write(entry)),
         }
     }
     if common < analyser.len() {

@@ -19,8 +19,9 @@ use Rattle.run.proofs.CutLog.{call_entries, beyond_none, call_beyond}
 use Rattle.run.proofs.Widths.{call_widths}
 use Rattle.analyser.specs.declared.Comparison.TheVariants.{Equal}
 use Rattle.analyser.specs.Comparison.{write_in, writes_logged, writes_caught, comparison_of}
-use Rattle.analyser.proofs.Answers.{write_is, equal_iff}
+use Rattle.analyser.proofs.Answers.{equal_iff}
 use Rattle.analyser.proofs.Unchanged.{logged_append}
+use Rattle.analyser.proofs.Writes.{write_is}
 use Rattle.lh5801.specs.Words.{taken_of, cpu_of}
 use Rattle.lh5801.specs.Faithful.{used_entries, entries_of}
 

@@ -43,6 +43,7 @@ ahead_analyser_ended n v vs = rw add-zero refl
 entry_first : (l : List ℕ) (i : ℕ) → i < length l → drop i l ≡ slice_index_or l i 0 ∷ drop (i + 1) l
 entry_first l i h = rw add-one (drop-cons l i 0 h)
 
+-- a write that is not the same
 write_differs : (w s : Bool) → (w && not s) ≡ true → (w ≡ true) × (s ≡ false)
 write_differs true false e = (refl, refl)
 write_differs true true e = absurd (true≢false (sym e))
@@ -50,49 +51,51 @@ write_differs false s e = absurd (true≢false (sym e))
 
 -- a turn over the entry at i of the log, where n writes were the same
 module _ (log analyser : List ℕ) (i n : ℕ) where
+  abbrev entry : ℕ
+  entry = slice_index_or log i 0
+
+  abbrev other : ℕ
+  other = slice_index_or analyser n 0
+
+  abbrev same : Bool
+  same = same_write (write_in entry) (write_in other)
+
+  -- the answer where the log is left from i on, and the analyser's list from n on
   abbrev left : ℕ → ℕ → Comparison
   left i n = ahead n (writes_logged (drop i log)) (writes_caught (drop n analyser))
 
-  logged_write : i < length log → is_write (slice_index_or log i 0) ≡ true
-      → writes_logged (drop i log) ≡ write_in (slice_index_or log i 0) ∷ writes_logged (drop (i + 1) log)
+  logged_write : i < length log → is_write entry ≡ true → writes_logged (drop i log) ≡ write_in entry ∷ writes_logged (drop (i + 1) log)
   unfolding writes_logged
   logged_write h e = rw (entry_first log i h, e) refl
 
-  -- it is counted where it is a write
-  read_next : i < length log → is_write (slice_index_or log i 0) ≡ false → left i n ≡ left (i + 1) n
+  -- a read is passed over, and a write that both have is counted
+  read_next : i < length log → is_write entry ≡ false → left i n ≡ left (i + 1) n
   unfolding writes_logged
   read_next h e = rw (entry_first log i h, e) refl
 
-  write_next : i < length log → n < length analyser → is_write (slice_index_or log i 0) ≡ true
-      → same_write (write_in (slice_index_or log i 0)) (write_in (slice_index_or analyser n 0)) ≡ true
-      → left i n ≡ left (i + 1) (n + 1)
+  write_next : i < length log → n < length analyser → is_write entry ≡ true → same ≡ true → left i n ≡ left (i + 1) (n + 1)
   write_next h k e s = rw (logged_write h e, entry_first analyser n k) (ahead_common n _ _ _ _ s)
 
-  pub turn_read : (m : ℕ) → i < length log → is_write (slice_index_or log i 0) ≡ false → m ≡ bool_byte (is_write (slice_index_or log i 0))
-      → left i n ≡ left (i + 1) (n + m)
+  -- so the count goes up by the mark
+  pub turn_read : (m : ℕ) → i < length log → is_write entry ≡ false → m ≡ bool_byte (is_write entry) → left i n ≡ left (i + 1) (n + m)
   turn_read m h e c = rw (c, e, add-zero) (read_next h e)
 
-  pub turn_next : (m : ℕ) → i < length log → n < length analyser
-      → (is_write (slice_index_or log i 0) && not (same_write (write_in (slice_index_or log i 0)) (write_in (slice_index_or analyser n 0)))) ≡ false
-      → m ≡ bool_byte (is_write (slice_index_or log i 0))
+  pub turn_next : (m : ℕ) → i < length log → n < length analyser → (is_write entry && not same) ≡ false → m ≡ bool_byte (is_write entry)
       → left i n ≡ left (i + 1) (n + m)
-  turn_next m h k d c = go (is_write (slice_index_or log i 0)) refl (same_write (write_in (slice_index_or log i 0)) (write_in (slice_index_or analyser n 0))) refl
+  turn_next m h k d c = go (is_write entry) refl same refl
     where
-      go : (b : Bool) → is_write (slice_index_or log i 0) ≡ b
-          → (t : Bool) → same_write (write_in (slice_index_or log i 0)) (write_in (slice_index_or analyser n 0)) ≡ t
-          → left i n ≡ left (i + 1) (n + m)
+      go : (b : Bool) → is_write entry ≡ b → (t : Bool) → same ≡ t → left i n ≡ left (i + 1) (n + m)
       go false e t s = turn_read m h e c
       go true e true s = rw (c, e) (write_next h k e s)
       go true e false s = absurd (true≢false (rw (e, s) at d))
 
-  pub turn_differ : i < length log → n < length analyser
-      → (is_write (slice_index_or log i 0) && not (same_write (write_in (slice_index_or log i 0)) (write_in (slice_index_or analyser n 0)))) ≡ true
-      → left i n ≡ Differ n
+  -- or it is the last one
+  pub turn_differ : i < length log → n < length analyser → (is_write entry && not same) ≡ true → left i n ≡ Differ n
   turn_differ h k d =
       let each = write_differs _ _ d in
       rw (logged_write h each.0, entry_first analyser n k) (ahead_differ n _ _ _ _ each.1)
 
-  pub turn_ended : i < length log → length analyser ≤ n → is_write (slice_index_or log i 0) ≡ true → left i n ≡ AnalyserEnded n
+  pub turn_ended : i < length log → length analyser ≤ n → is_write entry ≡ true → left i n ≡ AnalyserEnded n
   turn_ended h k e = rw (logged_write h e, drop_of_length-le analyser k) (ahead_analyser_ended n _ _)
 
   -- after the last entry

@@ -66,12 +66,16 @@ module _ (s : Settings) (byte : s.inputs.keyboard < 0x100) (log : Log) (m : Lh58
   pub faithful_list : writes_of o ≡ writes_caught (entries_of (writes_of o))
   faithful_list = sym (entries_caught o.bus fit)
 
-  -- and all used entries after the call tell the writes that they told before, and then the call's
-  pub call_logged : writes_logged (used_entries after) ≡ writes_logged (used_entries log) ++ writes_of o
+  -- all used entries after the call tell the writes that they told before, and then the call's
+  abbrev AreTold : Type 0
+  AreTold = writes_logged (used_entries after) ≡ writes_logged (used_entries log) ++ writes_of o
+
+  -- and they do: where the count is within the list, as the call's entries stand behind those before; where it is beyond, as the call has no access
+  pub call_logged : AreTold
   unfolding writes
   call_logged = go (ltb (length log.entries) log.used) refl
     where
-      within : log.used ≤ length log.entries → writes_logged (used_entries after) ≡ writes_logged (used_entries log) ++ writes_of o
+      within : log.used ≤ length log.entries → AreTold
       within h =
           let there = call_entries s log m p h in
           let long = length-append (take log.used log.entries) (map entry_of o.bus) ∙ ap₂ (λ i j. i + j) (length-take-le log.used log.entries h) (length-map o.bus entry_of) ∙ sym there.1 in
@@ -79,11 +83,10 @@ module _ (s : Settings) (byte : s.inputs.keyboard < 0x100) (log : Log) (m : Lh58
           ∙ logged_append (take log.used log.entries) (map entry_of o.bus)
           ∙ ap (λ (ws : List Write). writes_logged (take log.used log.entries) ++ ws) (entries_logged o.bus fit)
 
-      beyond : length log.entries < log.used → writes_logged (used_entries after) ≡ writes_logged (used_entries log) ++ writes_of o
-      beyond h =
-          rw (call_beyond s log m p h, beyond_none s log m p h) (sym (append-nil (writes_logged (used_entries log))))
+      beyond : length log.entries < log.used → AreTold
+      beyond h = rw (call_beyond s log m p h, beyond_none s log m p h) (sym (append-nil (writes_logged (used_entries log))))
 
-      go : (b : Bool) → ltb (length log.entries) log.used ≡ b → writes_logged (used_entries after) ≡ writes_logged (used_entries log) ++ writes_of o
+      go : (b : Bool) → ltb (length log.entries) log.used ≡ b → AreTold
       go true e = beyond (ltb-true (length log.entries) log.used e)
       go false e = within (ltb-false (length log.entries) log.used e)
 

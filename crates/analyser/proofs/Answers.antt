@@ -47,13 +47,13 @@ begun : (ours theirs first vs ws : List Write) (c : ℕ → Comparison) → ours
     → ahead 0 ours theirs ≡ c (length first)
 begun ours theirs first vs ws c e f h = rw (e, f) (after_first 0 first vs ws ∙ rw zero-add (h (length first)))
 
-answered : (ours theirs : List Write) (c : Comparison) → Says ours theirs c → ahead 0 ours theirs ≡ c
-answered ours theirs c (equal e) = begun ours theirs theirs [] [] (λ n. Equal) (e ∙ sym (append-nil theirs)) (sym (append-nil theirs)) ahead_equal
-answered ours theirs c (differ first v w vs ws e f n) =
+answer_is : (ours theirs : List Write) (c : Comparison) → Says ours theirs c → ahead 0 ours theirs ≡ c
+answer_is ours theirs c (equal e) = begun ours theirs theirs [] [] (λ n. Equal) (e ∙ sym (append-nil theirs)) (sym (append-nil theirs)) ahead_equal
+answer_is ours theirs c (differ first v w vs ws e f n) =
     begun ours theirs first (v ∷ vs) (w ∷ ws) Differ e f (λ k. ahead_differ k v w vs ws (not_same v w n))
-answered ours theirs c (log_ended w ws e) =
+answer_is ours theirs c (log_ended w ws e) =
     begun ours theirs ours [] (w ∷ ws) LogEnded (sym (append-nil ours)) e (λ k. ahead_log_ended k w ws)
-answered ours theirs c (analyser_ended v vs e) =
+answer_is ours theirs c (analyser_ended v vs e) =
     begun ours theirs theirs (v ∷ vs) [] AnalyserEnded e (sym (append-nil theirs)) (λ k. ahead_analyser_ended k v vs)
 
 -- ---- the place is the length of the longest common beginning
@@ -100,7 +100,7 @@ module _ (log analyser : List ℕ) where
   pub answer_iff : (c : Comparison) → comparison_of log analyser ≡ c ↔ Says ours theirs c
   answer_iff c = (
     λ e. rw (← e, from_start ours theirs) (says_after [] ours theirs),
-    λ s. from_start ours theirs ∙ answered ours theirs c s,
+    λ s. from_start ours theirs ∙ answer_is ours theirs c s,
   )
 
   -- "'Equal' is given precisely for the same sequence of writes"

@@ -58,9 +58,13 @@ module _ (s : Settings) (byte : s.inputs.keyboard < 0x100) (log : Log) (m : Lh58
   fit : AllFit o.bus
   fit = (call_widths s byte (free_in (Some log)) m p w bytes).bus
 
-  -- the entries that a call appends tell its writes, so exactly the lists that tell them too are equal to these entries
+  -- the writes in the entries that a call appends are the call's
+  pub appended_logged : writes_logged (map entry_of o.bus) ≡ writes_of o
+  appended_logged = entries_logged o.bus fit
+
+  -- so exactly the lists that tell them too are equal to these entries
   pub faithful_iff : (list : List ℕ) → comparison_of (map entry_of o.bus) list ≡ Equal ↔ (writes_of o ≡ writes_caught list)
-  faithful_iff list = rw (← entries_logged o.bus fit) (equal_iff (map entry_of o.bus) list)
+  faithful_iff list = rw (← appended_logged) (equal_iff (map entry_of o.bus) list)
 
   -- the writes as entries are such a list
   pub faithful_list : writes_of o ≡ writes_caught (entries_of (writes_of o))
@@ -81,7 +85,7 @@ module _ (s : Settings) (byte : s.inputs.keyboard < 0x100) (log : Log) (m : Lh58
           let long = length-append (take log.used log.entries) (map entry_of o.bus) ∙ ap₂ (λ i j. i + j) (length-take-le log.used log.entries h) (length-map o.bus entry_of) ∙ sym there.1 in
           ap writes_logged (rw there.0 (take_at (take log.used log.entries ++ map entry_of o.bus) _ after.used long))
           ∙ logged_append (take log.used log.entries) (map entry_of o.bus)
-          ∙ ap (λ (ws : List Write). writes_logged (take log.used log.entries) ++ ws) (entries_logged o.bus fit)
+          ∙ ap (λ (ws : List Write). writes_logged (take log.used log.entries) ++ ws) appended_logged
 
       beyond : length log.entries < log.used → AreTold
       beyond h = rw (call_beyond s log m p h, beyond_none s log m p h) (sym (append-nil (writes_logged (used_entries log))))

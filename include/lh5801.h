@@ -219,6 +219,8 @@ struct lh5801_settings {
     uint32_t *log;
     size_t log_length;
     size_t log_used;
+    uint32_t read_only_first;
+    uint32_t read_only_end;
 };
 
 /*
@@ -228,7 +230,8 @@ struct lh5801_settings {
  */
 size_t lh5801_call(uint64_t words[16], uint8_t *page0, size_t length0, uint8_t *page1,
                    size_t length1, uint32_t limit, uint8_t keyboard, uint8_t idle, bool logged,
-                   uint32_t *log, size_t log_length, size_t log_used);
+                   uint32_t *log, size_t log_length, size_t log_used, uint32_t read_only_first,
+                   uint32_t read_only_end);
 
 /*
  * Runs the unit for at most `settings->limit` steps from the record in `words`, over the two pages,
@@ -244,7 +247,8 @@ static inline void lh5801_run_with(uint64_t words[16], uint8_t *page0, size_t le
     settings->log_used =
         lh5801_call(words, page0, length0, page1, length1, settings->limit, settings->keyboard,
                     settings->idle, logged, logged ? settings->log : &none,
-                    logged ? settings->log_length : 0, settings->log_used);
+                    logged ? settings->log_length : 0, settings->log_used,
+                    settings->read_only_first, settings->read_only_end);
 }
 
 /*
@@ -256,7 +260,8 @@ static inline void lh5801_run(uint64_t words[16], uint8_t *page0, size_t length0
 {
     uint32_t none = 0;
 
-    lh5801_call(words, page0, length0, page1, length1, limit, keyboard, 0, false, &none, 0, 0);
+    lh5801_call(words, page0, length0, page1, length1, limit, keyboard, 0, false, &none, 0, 0, 0,
+                0);
 }
 
 /* What lh5801_compare says; see "The comparison" above. */

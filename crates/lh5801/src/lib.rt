@@ -13,6 +13,7 @@ ghost use Rattle.lh5801.specs.Compared.{compared_of};
 
 use bus::BusLog;
 use execution::Inputs;
+use pages::ReadOnly;
 use run::{Answer, Settings, record_numbers};
 
 // Words 0 to 11: the registers at their fields' widths, of the timer 65,535 where it is more, and the flags and the counters as they are.
@@ -64,6 +65,8 @@ pub extern "C" fn lh5801_call(
     logged: bool,
     log: &mut [u32],
     log_used: usize,
+    read_only_first: u32,
+    read_only_end: u32,
 ) -> usize
     ensures { Left (call_of (settings (inputs_of keyboard idle) limit) (free_in (lent_if logged (log_of log.old log_used))) (cpu_of words.old) (pages page0.old page1.old)) logged (log_of log.old log_used) (log_of log.new result) words.new (pages page0.new page1.new) }
 {
@@ -77,7 +80,11 @@ pub extern "C" fn lh5801_call(
         entries: log,
         used: log_used,
     };
-    let answer = run::run(cpu, page0, page1, logged, &mut bus_log, settings);
+    let read_only = ReadOnly {
+        first: read_only_first,
+        end: read_only_end,
+    };
+    let answer = run::run(cpu, page0, page1, read_only, logged, &mut bus_log, settings);
     *words = words_of(answer);
     bus_log.used
 }

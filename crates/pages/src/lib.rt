@@ -9,11 +9,19 @@ ghost use Rattle.pages.specs.Timer.{add_state_of, timer_inc_of, passed_of, timer
 
 use arithmetic::record::Lh5801;
 
+/// The part of page 0 that no write changes: from its first address up to, not including, its end.
+#[derive(Clone, Copy, Default)]
+pub struct ReadOnly {
+    pub first: u32,
+    pub end: u32,
+}
+
 /// The two lent pages as one memory.
 #[derive(Drop)]
 pub struct Memory<'a> {
     pub page0: &'a mut [u8],
     pub page1: &'a mut [u8],
+    pub read_only: ReadOnly,
 }
 
 /// The same pages, only to be read.
@@ -21,6 +29,7 @@ pub struct Memory<'a> {
 pub struct View<'a> {
     pub page0: &'a [u8],
     pub page1: &'a [u8],
+    pub read_only: ReadOnly,
 }
 
 /// What was read in the code or found by it, and the place after it.
@@ -67,6 +76,15 @@ pub fn word(high: u8, low: u8) -> u16
     u16::from_be_bytes([high, low])
 }
 
+impl ReadOnly {
+    // Page 1 has no such part, whatever the end is.
+    fn protects(self, addr: u32) -> bool
+        ensures { result ≡ protected self addr }
+    {
+        addr < 65536 && self.first <= addr && addr < self.end
+    }
+}
+
 impl View<'_> {
     /// The byte at an address of 17 bits: page 0, or from 65,536 on page 1.
     // `as` here and below: no From gives a usize of a u32.
@@ -79,6 +97,24 @@ impl View<'_> {
         } else {
             byte_at(self.page1, (addr - 65536) as usize)
         }
+    }
+
+    // A lent page has a byte at this address.
+    fn has(self, addr: u32) -> bool
+        ensures { result ≡ inside (seen self) addr }
+    {
+        if addr < 65536 {
+            (addr as usize) < self.page0.len()
+        } else {
+            ((addr - 65536) as usize) < self.page1.len()
+        }
+    }
+
+    /// A write at this address is kept.
+    pub fn stores(self, addr: u32) -> bool
+        ensures { result ≡ stored (seen self) addr }
+    {
+        !self.read_only.protects(addr) && self.has(addr)
     }
 
     pub fn cpu_readop(self, p: u16) -> Code<u8>
@@ -115,16 +151,25 @@ impl Memory<'_> {
         View {
             page0: self.page0,
             page1: self.page1,
+            read_only: self.read_only,
+        }
+    }
+
+    // A byte of a lent page.
+    fn put_byte(&mut self, addr: u32, v: u8)
+    {
+        if addr < 65536 {
+            put_at(self.page0, addr as usize, v);
+        } else {
+            put_at(self.page1, (addr - 65536) as usize, v);
         }
     }
 
     pub fn write_byte(&mut self, addr: u32, v: u8)
         ensures { Changes (write addr v) self tt }
     {
-        if addr < 65536 {
-            put_at(self.page0, addr as usize, v);
-        } else {
-            put_at(self.page1, (addr - 65536) as usize, v);
+        if self.view().stores(addr) {
+            self.put_byte(addr, v);
         }
     }
 }

@@ -15,7 +15,7 @@ ghost use Rattle.run.specs.Code.States.{answer_of, states_between, AnswersIn};
 use arithmetic::record::Lh5801;
 use bus::BusLog;
 use execution::{Executed, Inputs, Opcode, Stop};
-use pages::{Memory, View};
+use pages::{Memory, ReadOnly, View};
 
 pub mod campaign_file;
 pub mod line;
@@ -271,13 +271,18 @@ pub fn run(
     cpu: Lh5801,
     page0: &mut [u8],
     page1: &mut [u8],
+    read_only: ReadOnly,
     is_lent: bool,
     log: &mut BusLog,
     settings: Settings,
 ) -> Answer
-    ensures { CallAnswers (call_of settings (free_if is_lent log.old) cpu (pages page0.old page1.old)) result (pages page0.new page1.new) is_lent log.old log.new }
+    ensures { CallAnswers (call_of settings (free_if is_lent log.old) cpu (pages page0.old page1.old read_only)) result (pages page0.new page1.new read_only) is_lent log.old log.new }
 {
-    let mut memory = Memory { page0, page1 };
+    let mut memory = Memory {
+        page0,
+        page1,
+        read_only,
+    };
     if let Some(end) = not_accepted(cpu, &memory, settings) {
         return Answer {
             end,

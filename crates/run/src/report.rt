@@ -8,6 +8,7 @@ use crate::campaign_file::{Asked, Parsed};
 use crate::{Answer, Settings, campaign_file, line, parts};
 use bus::BusLog;
 use execution::Inputs;
+use pages::ReadOnly;
 
 // What a call is given by what a file asks.
 impl From<Asked> for Settings {
@@ -21,7 +22,7 @@ impl From<Asked> for Settings {
     }
 }
 
-// A file that was read: its run call, without a log.
+// A file that was read: its run call, without a log and with nothing read-only.
 #[tactic(auto, using(crate::proofs::Stored::copied), unfolding(crate::specs::BusLog::free_in))]
 fn file_answer(bytes: &[u8], c: Parsed) -> Answer
     requires page0_len_in_bounds { (c.page0.at + c.page0.len ≤ length bytes.now) × (c.page0.len ≤ 16384) }
@@ -42,6 +43,7 @@ fn file_answer(bytes: &[u8], c: Parsed) -> Answer
         c.page0.len,
         &mut page1,
         c.page1.len,
+        ReadOnly::default(),
         false,
         &mut log,
         Settings::from(c.asked),

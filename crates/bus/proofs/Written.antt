@@ -1,15 +1,11 @@
--- What an address reads after a write, from the length of page 0: the stack is there.
-use Rattle.std.proofs.Common.{◌≡◌, ℕ, ◌<◌, Bool, true, false, cond, ◌&&◌, eqb, ltb, List, length, refl}
-use Rattle.pages.specs.Pages.{pages}
-use Rattle.pages.proofs.Pages.{stored_page0}
+-- What an address reads after a write, by one test: it is the address that was written, and the write is stored.
+use Rattle.std.proofs.Common.{◌≡◌, ℕ, Bool, true, false, cond, ◌&&◌, eqb, refl}
+use Rattle.pages.specs.Pages.{Pages, stored}
 use Rattle.execution.specs.Code.Shapes.{after_write}
 
-pub after_write_lem : (page0 page1 : List ℕ) (s v a b : ℕ) → s < 0x10000
-    → after_write (pages page0 page1) s v a b ≡ cond (ltb s (length page0) && eqb a s) v b
-after_write_lem page0 page1 s v a b h = rw (stored_page0 page0 page1 s h) (go (ltb s (length page0)) (eqb a s))
+pub after_write_lem : (p : Pages) (s v a b : ℕ) → after_write p s v a b ≡ cond (eqb a s && stored p s) v b
+after_write_lem p s v a b = go (eqb a s) (stored p s)
   where
-    go : (k e : Bool) → cond e (cond k v b) b ≡ cond (k && e) v b
-    go true true = refl
-    go true false = refl
-    go false true = refl
-    go false false = refl
+    go : (e k : Bool) → cond e (cond k v b) b ≡ cond (e && k) v b
+    go true k = refl
+    go false k = refl

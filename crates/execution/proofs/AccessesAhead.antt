@@ -4,12 +4,12 @@ use Rattle.arithmetic.specs.declared.record.Lh5801.{Lh5801}
 use Rattle.arithmetic.specs.Record.{with_p, with_s, with_t, with_ir1, with_ir2, with_is_timer_reached}
 use Rattle.arithmetic.specs.Flags.{IE, has_flag}
 use Rattle.pages.specs.declared.Code.{Code}
-use Rattle.pages.specs.Pages.{Pages, at, stored, store, SameLength}
+use Rattle.pages.specs.Pages.{Pages, at, stored, store, SameLayout}
 use Rattle.pages.specs.Prog.{Prog, done, ◌>>=◌, read, write, Access, read_of, after, exec}
 use Rattle.pages.specs.Stack.{up16, down16, readop_of, readop_word_of, mem16_of, push_of, push_word_of, pop_of, pop_word_of, push_state_of, accept_of}
 use Rattle.pages.specs.Timer.{add_state_of, timer_part_of}
 use Rattle.pages.proofs.Exec.{bind_answer, bind_accesses}
-use Rattle.pages.proofs.Pages.{store_long, stored_long, at_store}
+use Rattle.pages.proofs.Pages.{store_layout, stored_layout, at_store}
 use Rattle.execution.specs.declared.Inputs.{Inputs}
 use Rattle.execution.specs.declared.places.Page.{Page}
 use Rattle.execution.specs.declared.places.Place.{Place}
@@ -45,13 +45,13 @@ read_after_write m s v a = at_store m s v a ∙ go (eqb a s) refl (stored m a) r
     go false p false q = refl
 
 -- which writes are stored goes by the lengths alone
-after_write_long : {m n : Pages} → SameLength m n → (s v a b : ℕ) → after_write n s v a b ≡ after_write m s v a b
-after_write_long l s v a b = rw (stored_long l s)
+after_write_layout : {m n : Pages} → SameLayout m n → (s v a b : ℕ) → after_write n s v a b ≡ after_write m s v a b
+after_write_layout l s v a b = rw (stored_layout l s)
 
 read_after_push_word : (m : Pages) (s w a : ℕ) → at (store (store m s (w % 256)) (down16 s) (w / 256)) a ≡ after_push_word m s w a (at m a)
 read_after_push_word m s w a =
     read_after_write (store m s (w % 256)) (down16 s) (w / 256) a
-    ∙ after_write_long (store_long m s (w % 256)) (down16 s) (w / 256) a (at (store m s (w % 256)) a)
+    ∙ after_write_layout (store_layout m s (w % 256)) (down16 s) (w / 256) a (at (store m s (w % 256)) a)
     ∙ ap (after_write m (down16 s) (w / 256) a) (read_after_write m s (w % 256) a)
 
 -- the vector of an interrupt, read after three pushes
@@ -60,7 +60,7 @@ read_after_accept : (m : Pages) (s t w a : ℕ)
     ≡ after_push_word m (down16 s) w a (after_write m s t a (at m a))
 read_after_accept m s t w a =
     read_after_push_word (store m s t) (down16 s) w a
-    ∙ rw (stored_long (store_long m s t) (down16 s), stored_long (store_long m s t) (down16 (down16 s)), read_after_write m s t a)
+    ∙ rw (stored_layout (store_layout m s t) (down16 s), stored_layout (store_layout m s t) (down16 (down16 s)), read_after_write m s t a)
 
 module _ (m : Lh5801) (pages : Pages) where
   vector_accesses_lem : (nr : ℕ) → (exec (vector_of m nr) pages).accesses ≡ vector_accesses pages m.s m.p nr

@@ -61,7 +61,8 @@ pub fn lop(cpu: Lh5801, view: View) -> Lh5801
     }
 }
 
-/// A vector that is taken.
+/// A vector that is taken. Always inline: see `execute`.
+#[inline(always)]
 pub fn vector(cpu: Lh5801, memory: &mut Memory, nr: u8) -> Lh5801
     ensures { Changes (vector_of cpu nr) memory result }
 {

@@ -63,6 +63,8 @@ pub enum Executed {
     Completed(Lh5801),
 }
 
+// Always inline, and so is `flow::vector`: as a call of its own it would be handed the record in memory (docs/TRIED.md).
+#[inline(always)]
 #[tactic(auto, using(pages::proofs::Does::does_done, pages::proofs::Does::does_gives), unfolding(crate::specs::Instructions::execute_of))]
 pub fn execute(cpu: Lh5801, memory: &mut Memory, inputs: Inputs, i: Instruction) -> Lh5801
     ensures { Changes (execute_of cpu inputs i) memory result }

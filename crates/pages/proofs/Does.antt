@@ -1,10 +1,10 @@
 -- How what functions do in the memory is put together. Callers cite these laws and open neither `exec` nor the pages.
-use Rattle.std.proofs.Common.{◌≡◌, ℕ, ◌-◌, ◌<◌, ◌≤◌, get_or, set, sym, refl, ap, ◌∙◌, subst}
+use Rattle.std.proofs.Common.{◌≡◌, ℕ, ◌-◌, ◌<◌, ◌≤◌, true, false, get_or, set, sym, refl, ap, ◌∙◌, subst}
 use Rattle.pages.specs.declared.Memory.{Memory}
-use Rattle.pages.specs.Pages.{Pages, at, store}
+use Rattle.pages.specs.Pages.{Pages, at, stored, store}
 use Rattle.pages.specs.Prog.{Prog, done, ◌>>=◌, mapped, read, write, after, exec}
 use Rattle.pages.specs.Contract.{held, SameLent, Does, Gives}
-use Rattle.pages.proofs.Pages.{at_page0, at_page1, store_page0, store_page1}
+use Rattle.pages.proofs.Pages.{at_page0, at_page1, store_kept, store_dropped, set_page0, set_page1}
 use Rattle.pages.proofs.Exec.{bind_answer, bind_pages}
 
 pub lent_same : {m : Memory} → SameLent m m
@@ -79,13 +79,21 @@ does_write a v s e = record { value = refl; pages = sym e; lent = s }
 
 -- one access, by the page that it goes to: only `read_byte` and `write_byte` need these
 pub gives_read0 : {a b : ℕ} {q : Pages} → a < 0x10000 → b ≡ get_or q.page0 a 0xFF → Gives (read a) q b
-gives_read0 {a} {q = q} h e = gives_read a (e ∙ sym (at_page0 q.page0 q.page1 a h))
+gives_read0 {a} {q = q} h e = gives_read a (e ∙ sym (at_page0 q a h))
 
 pub gives_read1 : {a b : ℕ} {q : Pages} → 0x10000 ≤ a → b ≡ get_or q.page1 (a - 0x10000) 0xFF → Gives (read a) q b
-gives_read1 {a} {q = q} h e = gives_read a (e ∙ sym (at_page1 q.page0 q.page1 a h))
+gives_read1 {a} {q = q} h e = gives_read a (e ∙ sym (at_page1 q a h))
 
-pub does_write0 : (a v : ℕ) {m n : Memory} → SameLent m n → a < 0x10000 → n.page0.now ≡ set m.page0.now a v → n.page1.now ≡ m.page1.now → Does (write a v) m tt n
-does_write0 a v {m} {n} s h e o = does_write a v s (rw (e, o) (sym (store_page0 m.page0.now m.page1.now a v h)))
+pub does_write0 : (a v : ℕ) {m n : Memory} → SameLent m n → stored (held m) a ≡ true → a < 0x10000
+    → held n ≡ record (held m) { page0 = set m.page0.now a v }
+    → Does (write a v) m tt n
+does_write0 a v {m} s k h e = does_write a v s (e ∙ sym (store_kept (held m) a v k ∙ set_page0 (held m) a v h))
 
-pub does_write1 : (a v : ℕ) {m n : Memory} → SameLent m n → 0x10000 ≤ a → n.page0.now ≡ m.page0.now → n.page1.now ≡ set m.page1.now (a - 0x10000) v → Does (write a v) m tt n
-does_write1 a v {m} {n} s h o e = does_write a v s (rw (e, o) (sym (store_page1 m.page0.now m.page1.now a v h)))
+pub does_write1 : (a v : ℕ) {m n : Memory} → SameLent m n → stored (held m) a ≡ true → 0x10000 ≤ a
+    → held n ≡ record (held m) { page1 = set m.page1.now (a - 0x10000) v }
+    → Does (write a v) m tt n
+does_write1 a v {m} s k h e = does_write a v s (e ∙ sym (store_kept (held m) a v k ∙ set_page1 (held m) a v h))
+
+-- and one that is dropped
+pub does_dropped : (a v : ℕ) {m : Memory} → stored (held m) a ≡ false → Does (write a v) m tt m
+does_dropped a v {m} k = does_write a v lent_same (sym (store_dropped (held m) a v k))

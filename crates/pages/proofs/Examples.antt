@@ -6,7 +6,7 @@ use Rattle.arithmetic.specs.Record.{with_a, with_t, with_s, with_tm, with_is_tim
 use Rattle.arithmetic.specs.Logic.{lda_of}
 use Rattle.pages.specs.declared.Code.{Code}
 use Rattle.pages.specs.declared.Popped.{Popped}
-use Rattle.pages.specs.Pages.{Pages, pages, at, inside, stored, set_byte, store}
+use Rattle.pages.specs.Pages.{Pages, writable, at, inside, protected, stored, set_byte, store}
 use Rattle.pages.specs.Prog.{Prog, done, ◌>>=◌, read, write, Access, read_of, write_of, Ran, after, exec}
 use Rattle.pages.specs.Stack.{readop_of, readop_word_of, mem16_of, push_of, push_word_of, pop_of, pop_word_of}
 use Rattle.pages.specs.Timer.{shift_of, timer_inc_of, passed_of, timer_part_of}
@@ -18,7 +18,7 @@ pub record Example : Type 0 where
 
 -- page 0 has the bytes 10 to 13 at 0 to 3, page 1 the bytes 20 and 21 at 10000 and 10001
 abbrev pub small : Pages
-small = pages (0x10 ∷ 0x11 ∷ 0x12 ∷ 0x13 ∷ []) (0x20 ∷ 0x21 ∷ [])
+small = writable (0x10 ∷ 0x11 ∷ 0x12 ∷ 0x13 ∷ []) (0x20 ∷ 0x21 ∷ [])
 
 -- what the answers tell
 abbrev pub code : Prog (Code ℕ) → Prog (List ℕ)
@@ -53,13 +53,13 @@ examples m =
     ∷ example (number (mem16_of 0xFFFF)) (0xFF20 ∷ []) (read_of 0xFFFF 0xFF ∷ read_of 0x10000 0x20 ∷ []) small
     -- a word is pushed low byte first, and S wraps; a dropped write still is an access
     ∷ example (stack (push_word_of (with_s m 3) 0xAABB)) (1 ∷ []) (write_of 3 0xBB ∷ write_of 2 0xAA ∷ [])
-    (pages (0x10 ∷ 0x11 ∷ 0xAA ∷ 0xBB ∷ []) (0x20 ∷ 0x21 ∷ []))
+    (writable (0x10 ∷ 0x11 ∷ 0xAA ∷ 0xBB ∷ []) (0x20 ∷ 0x21 ∷ []))
     ∷ example (stack (push_word_of (with_s m 0) 0xAABB)) (0xFFFE ∷ []) (write_of 0 0xBB ∷ write_of 0xFFFF 0xAA ∷ [])
-    (pages (0xBB ∷ 0x11 ∷ 0x12 ∷ 0x13 ∷ []) (0x20 ∷ 0x21 ∷ []))
+    (writable (0xBB ∷ 0x11 ∷ 0x12 ∷ 0x13 ∷ []) (0x20 ∷ 0x21 ∷ []))
     ∷ example (stack (push_of (with_s m 4) 0xAA)) (3 ∷ []) (write_of 4 0xAA ∷ []) small
     -- a write on page 1
     ∷ example (nothing (write 0x10001 0xAA)) [] (write_of 0x10001 0xAA ∷ [])
-    (pages (0x10 ∷ 0x11 ∷ 0x12 ∷ 0x13 ∷ []) (0x20 ∷ 0xAA ∷ []))
+    (writable (0x10 ∷ 0x11 ∷ 0x12 ∷ 0x13 ∷ []) (0x20 ∷ 0xAA ∷ []))
     ∷ example (nothing (write 0x10002 0xAA)) [] (write_of 0x10002 0xAA ∷ []) small
     -- S moves up before a byte is popped; a word is popped high first, and S wraps
     ∷ example (loaded (pop_of (with_s m 1))) (0x12 ∷ 2 ∷ []) (read_of 2 0x12 ∷ []) small
@@ -69,7 +69,7 @@ examples m =
 
 pub examples_hold : (m : Lh5801)
     → map (λ (e : Example). exec e.program small) (examples m) ≡ map (λ (e : Example). e.comes) (examples m)
-unfolding examples exec after at inside stored set_byte store ◌>>=◌ read write readop_of readop_word_of mem16_of push_of push_word_of pop_of pop_word_of with_a with_t with_s lda_of
+unfolding examples exec after at inside protected stored set_byte store ◌>>=◌ read write readop_of readop_word_of mem16_of push_of push_word_of pop_of pop_word_of with_a with_t with_s lda_of
 examples_hold m = refl
 
 -- the timer's part of a record

@@ -1,11 +1,11 @@
 -- Access programs one after the other, and what one leaves of the pages.
 use Rattle.std.proofs.Common.{◌≡◌, ℕ, Bool, true, false, cond, ◌&&◌, eqb, List, [], ◌∷◌, ◌++◌, sym, refl, ap, ◌∙◌}
-use Rattle.pages.specs.Pages.{Pages, at, stored, store, SameLength}
+use Rattle.pages.specs.Pages.{Pages, at, stored, store, SameLayout}
 use Rattle.pages.specs.declared.Code.{Code}
 use Rattle.pages.specs.Prog.{Access, Prog, done, get, put, ◌>>=◌, read, read_of, write_of, after, exec}
 use Rattle.pages.specs.Stack.{readop_of}
 use Rattle.pages.specs.Written.{Write, writes, latest, Written}
-use Rattle.pages.proofs.Pages.{long_refl, long_trans, store_long, stored_long, at_store}
+use Rattle.pages.proofs.Pages.{layout_refl, layout_trans, store_layout, stored_layout, at_store}
 
 -- a program after another: the second goes on from the first's answer and pages, and its accesses come after
 pub exec_bind : {A B : Type 0} (p : Prog A) (f : A → Prog B) (m : Pages)
@@ -56,11 +56,11 @@ pub bind_accesses : {A B : Type 0} (p : Prog A) (f : A → Prog B) (m : Pages)
 bind_accesses p f m = ap (λ x. x.accesses) (exec_bind p f m)
 
 -- a program keeps the lengths
-pub exec_long : {A : Type 0} (p : Prog A) (m : Pages) → SameLength m (exec p m).pages
+pub exec_layout : {A : Type 0} (p : Prog A) (m : Pages) → SameLayout m (exec p m).pages
 unfolding exec after
-exec_long (done a) m = long_refl m
-exec_long (get a k) m = exec_long (k (at m a)) m
-exec_long (put a v p) m = long_trans (store_long m a v) (exec_long p (store m a v))
+exec_layout (done a) m = layout_refl m
+exec_layout (get a k) m = exec_layout (k (at m a)) m
+exec_layout (put a v p) m = layout_trans (store_layout m a v) (exec_layout p (store m a v))
 
 cond_same : (t : Bool) (x : ℕ) → x ≡ cond t x x
 cond_same true x = refl
@@ -72,7 +72,7 @@ unfolding exec after writes latest
 exec_bytes (done x) m a = cond_same (stored m a) (at m a)
 exec_bytes (get b k) m a = exec_bytes (k (at m b)) m a
 exec_bytes (put b v p) m a =
-    exec_bytes p (store m b v) a ∙ rw (stored_long (store_long m b v) a, at_store m b v a) (go (stored m a) (eqb a b))
+    exec_bytes p (store m b v) a ∙ rw (stored_layout (store_layout m b v) a, at_store m b v a) (go (stored m a) (eqb a b))
   where
     ws : List Write
     ws = writes (exec p (store m b v)).accesses
@@ -96,7 +96,7 @@ writes_append (write_of a v ∷ k) l = ap (λ (ws : List Write). record { addres
 
 -- what any program leaves, byte by byte
 pub exec_written : {A : Type 0} (p : Prog A) (m : Pages) → Written m (writes (exec p m).accesses) (exec p m).pages
-exec_written p m = record { long = exec_long p m; bytes = exec_bytes p m }
+exec_written p m = record { layout = exec_layout p m; bytes = exec_bytes p m }
 
 latest_append : (a : ℕ) (xs ys : List Write) (d : ℕ) → latest a (xs ++ ys) d ≡ latest a ys (latest a xs d)
 unfolding latest
@@ -106,10 +106,10 @@ latest_append a (x ∷ xs) ys d = latest_append a xs ys (cond (eqb a x.address) 
 -- no write, and writes after writes
 pub written_none : (m : Pages) → Written m [] m
 unfolding latest
-written_none m = record { long = long_refl m; bytes = λ a. cond_same (stored m a) (at m a) }
+written_none m = record { layout = layout_refl m; bytes = λ a. cond_same (stored m a) (at m a) }
 
 pub written_then : {l m n : Pages} {xs ys : List Write} → Written l xs m → Written m ys n → Written l (xs ++ ys) n
-written_then {l} {m} {n} {xs} {ys} p q = record { long = long_trans p.long q.long; bytes = bytes }
+written_then {l} {m} {n} {xs} {ys} p q = record { layout = layout_trans p.layout q.layout; bytes = bytes }
   where
     go : (a : ℕ) (s : Bool)
         → cond s (latest a ys (cond s (latest a xs (at l a)) (at l a))) (cond s (latest a xs (at l a)) (at l a))
@@ -118,4 +118,4 @@ written_then {l} {m} {n} {xs} {ys} p q = record { long = long_trans p.long q.lon
     go a false = refl
 
     bytes : (a : ℕ) → at n a ≡ cond (stored l a) (latest a (xs ++ ys) (at l a)) (at l a)
-    bytes a = q.bytes a ∙ rw (stored_long p.long a, p.bytes a) (go a (stored l a))
+    bytes a = q.bytes a ∙ rw (stored_layout p.layout a, p.bytes a) (go a (stored l a))

@@ -7,9 +7,9 @@ use Rattle.pages.specs.declared.View.{View}
 use Rattle.pages.specs.Pages.{Pages, pages}
 use Rattle.pages.specs.Prog.{Prog, exec}
 
--- the bytes of the two pages that a memory holds
+-- the pages that a memory holds
 abbrev pub held : Memory → Pages
-held memory = pages memory.page0.now memory.page1.now
+held memory = pages memory.page0.now memory.page1.now memory.read_only
 
 -- two memories hold the same lent pages, whatever their bytes are: what is left in the one is left with the lender of the other
 pub record SameLent (l n : Memory) : Type 0 where
@@ -38,9 +38,9 @@ pub record Gives {A : Type 0} (p : Prog A) (q : Pages) (r : A) : Type 0 where
   pub value : r ≡ (exec p q).answer
   pub pages : (exec p q).pages ≡ q
 
--- the bytes that a view shows
+-- the pages that a view shows
 abbrev pub seen : View → Pages
-seen view = pages view.page0.now view.page1.now
+seen view = pages view.page0.now view.page1.now view.read_only
 
 abbrev pub as_shared : Both View View → Pages
 as_shared view = seen view.entry

@@ -1,6 +1,6 @@
 -- What a list of accesses says of each byte of the pages (document 01, "The runs of demand 3").
 use Rattle.std.specs.Prelude.{◌≡◌, ℕ, Bool, false, cond, not, ◌&&◌, ◌||◌, T, List, [], ◌∷◌, ◌==◌}
-use Rattle.pages.specs.Pages.{Pages, at, inside, stored, SameLength}
+use Rattle.pages.specs.Pages.{Pages, at, inside, stored, SameLayout}
 use Rattle.pages.specs.Prog.{Access, read_of, write_of}
 
 -- a write of the sequence, a dropped one included: its address and its byte
@@ -19,10 +19,10 @@ unfoldable pub latest : ℕ → List Write → ℕ → ℕ
 latest a [] d = d
 latest a (w ∷ ws) d = latest a ws (cond (a == w.address) w.byte d)
 
--- from the pages m and with the writes ws, the pages e are what they must be: as long, and at every address, a byte that stores its writes holds
--- what was last written there, if anything was, and every other byte is its own
+-- from the pages m and with the writes ws, the pages e are what they must be: as long, with the same read-only part, and at every address, a byte that
+-- stores its writes holds what was last written there, if anything was, and every other byte is its own
 pub record Written (m : Pages) (ws : List Write) (e : Pages) : Type 0 where
-  pub long : SameLength m e
+  pub layout : SameLayout m e
   pub bytes : (a : ℕ) → at e a ≡ cond (stored m a) (latest a ws (at m a)) (at m a)
 
 -- the byte at a is read, and before that no write was stored in it: "a dropped write leaves its byte unwritten"

@@ -2,8 +2,9 @@
 #![tactic(auto)]
 
 ghost use Rattle.std.specs.Prelude.{◌≡◌, ◌<◌, set, slice_index_or, slice_set};
+ghost use Rattle.pages.specs.Pages.{inside, protected, stored};
 ghost use Rattle.pages.specs.Prog.{read, write};
-ghost use Rattle.pages.specs.Contract.{Changes, Reads, held, seen};
+ghost use Rattle.pages.specs.Contract.{Changes, Reads, held, seen, as_shared};
 ghost use Rattle.pages.specs.Stack.{me1_of, word_of, readop_of, readop_word_of, mem16_of, push_of, push_word_of, pop_of, pop_word_of, push_state_of, accept_of};
 ghost use Rattle.pages.specs.Timer.{add_state_of, timer_inc_of, passed_of, timer_part_of};
 
@@ -78,6 +79,7 @@ pub fn word(high: u8, low: u8) -> u16
 
 impl ReadOnly {
     // Page 1 has no such part, whatever the end is.
+    #[tactic(auto, unfolding(crate::specs::Pages::protected))]
     fn protects(self, addr: u32) -> bool
         ensures { result ≡ protected self addr }
     {
@@ -100,8 +102,9 @@ impl View<'_> {
     }
 
     // A lent page has a byte at this address.
-    fn has(self, addr: u32) -> bool
-        ensures { result ≡ inside (seen self) addr }
+    #[tactic(auto, using(crate::proofs::Pages::inside_page0, crate::proofs::Pages::inside_page1))]
+    fn has_byte(self, addr: u32) -> bool
+        ensures { result ≡ inside (as_shared self) addr }
     {
         if addr < 65536 {
             (addr as usize) < self.page0.len()
@@ -111,10 +114,11 @@ impl View<'_> {
     }
 
     /// A write at this address is kept.
+    #[tactic(auto, unfolding(crate::specs::Pages::stored))]
     pub fn stores(self, addr: u32) -> bool
-        ensures { result ≡ stored (seen self) addr }
+        ensures { result ≡ stored (as_shared self) addr }
     {
-        !self.read_only.protects(addr) && self.has(addr)
+        !self.read_only.protects(addr) && self.has_byte(addr)
     }
 
     pub fn cpu_readop(self, p: u16) -> Code<u8>
@@ -155,21 +159,15 @@ impl Memory<'_> {
         }
     }
 
-    // A byte of a lent page.
-    fn put_byte(&mut self, addr: u32, v: u8)
-    {
-        if addr < 65536 {
-            put_at(self.page0, addr as usize, v);
-        } else {
-            put_at(self.page1, (addr - 65536) as usize, v);
-        }
-    }
-
     pub fn write_byte(&mut self, addr: u32, v: u8)
         ensures { Changes (write addr v) self tt }
     {
         if self.view().stores(addr) {
-            self.put_byte(addr, v);
+            if addr < 65536 {
+                put_at(self.page0, addr as usize, v);
+            } else {
+                put_at(self.page1, (addr - 65536) as usize, v);
+            }
         }
     }
 }

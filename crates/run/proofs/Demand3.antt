@@ -4,7 +4,7 @@ use mathlib.Core.List.{flatten, get_last, get_last-cons, cons-ne-nil}
 use Rattle.std.specs.Prelude.{Option}
 use Rattle.arithmetic.specs.declared.record.Lh5801.{Lh5801}
 use Rattle.execution.specs.declared.Inputs.{Inputs}
-use Rattle.pages.specs.Pages.{Pages, SameLength}
+use Rattle.pages.specs.Pages.{Pages, SameLayout}
 use Rattle.pages.specs.Written.{Write, writes, Written}
 use Rattle.pages.proofs.Exec.{writes_none, writes_append}
 use Rattle.run.specs.declared.Settings.{Settings}
@@ -97,8 +97,8 @@ pub first_accepted : (l n : ℕ) (inputs : Inputs) {m : Lh5801} {p : Pages} → 
 first_accepted l n inputs h i =
     record { page0 = h.page0; page1 = h.page1; timer = h.timer; limit = ⊎_elim (λ e. omega arith) (λ e. omega (arith, limit_most h)) }
 
-long_accepted : {s : Settings} {m : Lh5801} {p q : Pages} → Accepted s m p → SameLength p q → Accepted s m q
-long_accepted h l = record { page0 = rw (← l.page0) h.page0; page1 = rw (← l.page1) h.page1; timer = h.timer; limit = h.limit }
+layout_accepted : {s : Settings} {m : Lh5801} {p q : Pages} → Accepted s m p → SameLayout p q → Accepted s m q
+layout_accepted h l = record { page0 = rw (← l.page0) h.page0; page1 = rw (← l.page1) h.page1; timer = h.timer; limit = h.limit }
 
 -- the steps of a call keep TM at most 511
 pub run_small : (n : ℕ) (inputs : Inputs) (free : Option ℕ) (m : Lh5801) (p : Pages) → m.tm < 512 → (run_of n inputs free m p).answer.cpu.tm < 512
@@ -109,8 +109,8 @@ pub rest_accepted : (l n : ℕ) (inputs : Inputs) (free : Option ℕ) {m : Lh580
     → Accepted (settings inputs n) (run_of l inputs free m p).answer.cpu (run_of l inputs free m p).pages
 rest_accepted l n inputs free {m} {p} h i =
     record {
-      page0 = rw (← (run_written l inputs free m p).long.page0) h.page0;
-      page1 = rw (← (run_written l inputs free m p).long.page1) h.page1;
+      page0 = rw (← (run_written l inputs free m p).layout.page0) h.page0;
+      page1 = rw (← (run_written l inputs free m p).layout.page1) h.page1;
       timer = omega (arith, run_small l inputs free m p (omega (arith, h.timer)));
       limit = ⊎_elim (λ e. omega arith) (λ e. omega (arith, limit_most h));
     }
@@ -145,7 +145,7 @@ pub demand_3 : Demand3
 unfolding Demand3 sum AtLeastOne
 demand_3 s free m p h [] is e q l agree = absurd (omega (arith, limit_some h))
 demand_3 s free m p h (k ∷ ks) is e q l agree =
-    let a : Accepted (settings s.inputs (k + sum ks)) m q = rw e (long_accepted h l) in (
+    let a : Accepted (settings s.inputs (k + sum ks)) m q = rw e (layout_accepted h l) in (
       all_accepted k ks s.inputs free m q a is.0 is.1,
       rw (call_run s free m p h)
           (same (rw e at (calls_sum k ks s.inputs free m q a is.0 is.1)) (run_agree s.limit s.inputs free m p q l agree)

@@ -3,11 +3,11 @@ use Rattle.std.proofs.Common.{◌≡◌, ℕ, zero, suc, ◌+◌, ◌≤◌, Boo
 use Rattle.std.specs.Prelude.{Option}
 use Rattle.arithmetic.specs.declared.record.Lh5801.{Lh5801}
 use Rattle.execution.specs.declared.Inputs.{Inputs}
-use Rattle.pages.specs.Pages.{Pages, SameLength}
+use Rattle.pages.specs.Pages.{Pages, SameLayout}
 use Rattle.pages.specs.Prog.{Access, Ran}
 use Rattle.pages.specs.Written.{Written, Agree}
-use Rattle.pages.proofs.Pages.{long_sym, long_trans}
-use Rattle.pages.proofs.Exec.{exec_long, writes_none, writes_append, exec_written, written_none, written_then}
+use Rattle.pages.proofs.Pages.{layout_sym, layout_trans}
+use Rattle.pages.proofs.Exec.{exec_layout, writes_none, writes_append, exec_written, written_none, written_then}
 use Rattle.pages.proofs.Agree.{exec_agree}
 use Rattle.execution.specs.declared.Stop.{Stop}
 use Rattle.execution.specs.Step.{Kind, StepEnd, did, stopped, step_of}
@@ -153,11 +153,11 @@ unfolding completed
 same_completed t l k x y e h = record { answer = rw h.answer; bus = rw (e, h.bus) }
 
 -- on pages that agree where the steps read first, they tell and do the same on the bus
-pub run_agree : (n : ℕ) (inputs : Inputs) (free : Option ℕ) (m : Lh5801) (p q : Pages) → SameLength p q → Agree p q (accesses_of n inputs free m p)
+pub run_agree : (n : ℕ) (inputs : Inputs) (free : Option ℕ) (m : Lh5801) (p q : Pages) → SameLayout p q → Agree p q (accesses_of n inputs free m p)
     → SameButPages (run_of n inputs free m p) (run_of n inputs free m q)
 run_agree n inputs free m p q l h =
     run_each inputs
-    (λ n free m p o. (q : Pages) → SameLength p q → Agree p q (accesses_of n inputs free m p) → SameButPages o (run_of n inputs free m q))
+    (λ n free m p o. (q : Pages) → SameLayout p q → Agree p q (accesses_of n inputs free m p) → SameButPages o (run_of n inputs free m q))
     (λ free m p q l h. unfold run_of in same_no_step AllSteps m p q)
     (λ n free m p f q l h. rw (run_full inputs free m q n f) (same_no_step LogFull m p q))
     (λ n free m p s f e q l h.
@@ -169,6 +169,6 @@ run_agree n inputs free m p q l h =
     (same_completed t _ _ _ _ both.accesses
     (rw both.accesses
     (ih (one_step inputs m q).pages
-    (long_trans (long_sym (exec_long (step_of m inputs) p)) (long_trans l (exec_long (step_of m inputs) q)))
+    (layout_trans (layout_sym (exec_layout (step_of m inputs) p)) (layout_trans l (exec_layout (step_of m inputs) q)))
     both.agree))))
     n free m p q l h

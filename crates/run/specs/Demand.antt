@@ -3,7 +3,7 @@ use Rattle.std.specs.Prelude.{◌≡◌, ℕ, ◌+◌, ◌≤◌, ◌≢◌, Lis
 use mathlib.Core.List.{flatten, get_last}
 use Rattle.arithmetic.specs.declared.record.Lh5801.{Lh5801}
 use Rattle.execution.specs.declared.Inputs.{Inputs}
-use Rattle.pages.specs.Pages.{Pages, SameLength}
+use Rattle.pages.specs.Pages.{Pages, SameLayout}
 use Rattle.pages.specs.Written.{Written, Agree}
 use Rattle.run.specs.declared.Settings.{Settings}
 use Rattle.run.specs.Acceptance.{end_number, end_byte, Accepted}
@@ -56,6 +56,6 @@ Demand3 =
     → AtLeastOne limits
     → sum limits ≡ s.limit
     → (q : Pages)
-    → SameLength p q
+    → SameLayout p q
     → Agree p q (accesses_of s.limit s.inputs free m p)
     → AllAccepted limits s.inputs free m q × SameAsRun p q (call_of s free m p) (calls_of limits s.inputs free m q)

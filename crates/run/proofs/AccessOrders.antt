@@ -7,7 +7,7 @@ use Rattle.arithmetic.specs.Record.{with_a, with_t, with_x, with_y, with_u, with
 use Rattle.arithmetic.specs.Flags.{with_flags}
 use Rattle.arithmetic.specs.Sums.{add_of, sbc_of, cpa_of}
 use Rattle.arithmetic.specs.Logic.{lda_of, bit_test_of}
-use Rattle.pages.specs.Pages.{Pages, at, inside, stored, set_byte, store}
+use Rattle.pages.specs.Pages.{Pages, at, inside, protected, stored, set_byte, store}
 use Rattle.pages.specs.Prog.{◌>>=◌, read, write, read_of, write_of, Ran, after, exec}
 use Rattle.pages.specs.Written.{writes, read_first}
 use Rattle.pages.specs.Stack.{readop_of, readop_word_of, mem16_of, push_of, push_word_of, pop_of, pop_word_of, push_state_of, accept_of}
@@ -36,12 +36,12 @@ abbrev pub step_seen : Lh5801 → Pages → Seen
 step_seen m p = seen_of (stepped pressed m p).answer (stepped pressed m p).accesses
 
 pub access_orders_hold : map (λ (c : Case). step_seen c.cpu c.pages) access_orders ≡ map (λ (c : Case). c.comes) access_orders
-unfolding access_orders stepped at inside stored set_byte store
+unfolding access_orders stepped at inside protected stored set_byte store
 access_orders_hold = refl
 
 -- document 01's "dropped" write changes no page
 pub dropped : (stepped pressed (with_x start_record 0x40) (coded (0x0E ∷ []))).pages ≡ coded (0x0E ∷ [])
-unfolding stepped at inside stored set_byte store
+unfolding stepped at inside protected stored set_byte store
 dropped = refl
 
 -- ---- what a step reads before it has written it
@@ -49,7 +49,7 @@ dropped = refl
 -- S at FFFB: T goes to FFFB and P's low byte to FFFA, and these bytes then are the vector
 pub pushed_vector : (stepped pressed (interrupted 0xFFFB) long).accesses
     ≡ write_of 0xFFFB 0x02 ∷ write_of 0xFFFA 0x04 ∷ write_of 0xFFF9 0x03 ∷ read_of 0xFFFA 0x04 ∷ read_of 0xFFFB 0x02 ∷ []
-unfolding stepped at inside stored set_byte store
+unfolding stepped at inside protected stored set_byte store
 pushed_vector = refl
 
 -- on any pages that keep what is written there: both bytes of the vector are read first, where the pushes miss them (S at 000C, FFF9 and FFFE); with S at FFFA to FFFD one of
@@ -72,9 +72,9 @@ pushed_vector_first p h e f = rw (h, e, f)
 -- with any limit from 2 on, the accesses are those of the completed step and then the two reads of the step that stops with 6
 pub stopping_step_reads : (n : ℕ)
     → accesses_of (suc (suc n)) pressed None start_record two_steps ≡ (stepped pressed start_record two_steps).accesses ++ (read_of 0x01 0xFD ∷ read_of 0x02 0x00 ∷ [])
-unfolding accesses_of accesses_after stepped at inside stored set_byte store
+unfolding accesses_of accesses_after stepped at inside protected stored set_byte store
 stopping_step_reads n = refl
 
 pub calls_hold : map (λ (c : CallCase). call_seen c.limit c.cpu c.pages) calls ≡ map (λ (c : CallCase). c.comes) calls
-unfolding calls read_first writes not_accepted no_step completed onward run_of accesses_of accesses_after call_unless call_of stepped at inside stored set_byte store
+unfolding calls read_first writes not_accepted no_step completed onward run_of accesses_of accesses_after call_unless call_of stepped at inside protected stored set_byte store
 calls_hold = refl

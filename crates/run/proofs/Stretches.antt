@@ -26,6 +26,7 @@ use Rattle.run.specs.Code.States.{answer_of, states_between, AnswersIn}
 use Rattle.run.proofs.BusLog.{after_none, after_append, logged_none, logged_then, logged_free}
 use Rattle.run.proofs.Acceptance.{call_run, accepted_by}
 use Rattle.run.proofs.Loop.{Going, at_start_lem}
+use Rattle.run.proofs.Steps.{run_written}
 use Rattle.run.proofs.Ends.{reaches_run, reaches_full, reaches_stop, reaches_all, reaches_none, reaches_logged, reaches_ticks, reaches_most}
 
 -- how far the next stretch may go, by the code's tests
@@ -162,11 +163,13 @@ module _ {s : Settings} {is_lent : Bool} {before : BusLog} {first : Lh5801} {l :
           let stops : AheadIs s.inputs steps reach r.steps r.cpu (held o) (Some x) = subst (AheadIs s.inputs steps reach r.steps r.cpu (held o)) e d.leads.ahead in
           told (reaches_stop s.limit k.going.reached (omega (arith, stops.0, room_ahead room a)) (not_full e, stops.1)) (counted k i j) k.lent k.logged
 
--- the call that these are the steps of
+-- the call that these are the steps of. The read-only part is after it what it was before
 pub accepted_call : (s : Settings) (m : Lh5801) (l : Memory) {r : Answer} {n : Memory} {q : Pages} {is_lent : Bool} {before now : BusLog}
-    → not_accepted s m (held l) ≡ None → q ≡ held n
+    → not_accepted s m (held l) ≡ None → q ≡ record (held n) { read_only = l.read_only }
     → AnswersIn (run_of s.limit s.inputs (free_if is_lent before) m (held l)) l r n is_lent before now
     → CallAnswers (call_of s (free_if is_lent before) m (held l)) r q is_lent before now
-accepted_call s m l {is_lent = is_lent} {before = before} h w a =
-    rw (call_run s (free_if is_lent before) m (held l) (accepted_by s m (held l) h))
-    (record { answers = record { answer = a.answers.answer; pages = w ∙ a.answers.pages }; logged = a.logged })
+accepted_call s m l {n = n} {is_lent = is_lent} {before = before} h w a =
+    let free = free_if is_lent before in
+    let same = (run_written s.limit s.inputs free m (held l)).layout.read_only ∙ sym (ap (λ (p : Pages). p.read_only) a.answers.pages) in
+    rw (call_run s free m (held l) (accepted_by s m (held l) h))
+    (record { answers = record { answer = a.answers.answer; pages = rw same at w ∙ a.answers.pages }; logged = a.logged })

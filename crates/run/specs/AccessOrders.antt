@@ -4,7 +4,7 @@ use Rattle.std.specs.Prelude.{ℕ, Bool, true, false, List, [], ◌∷◌, ◌++
 use Rattle.arithmetic.specs.declared.record.Lh5801.{Lh5801}
 use Rattle.arithmetic.specs.Record.{with_t, with_x, with_u, with_s, with_p, with_is_halted, with_bf, with_ir0, with_ir1, with_ir2, with_is_timer_reached}
 use Rattle.arithmetic.specs.Flags.{CF, IE}
-use Rattle.pages.specs.Pages.{Pages, pages}
+use Rattle.pages.specs.Pages.{Pages, writable}
 use Rattle.pages.specs.Prog.{Access, read_of, write_of}
 use Rattle.pages.specs.Written.{Write, writes, read_first}
 use Rattle.execution.specs.Inputs.{of_keyboard}
@@ -37,7 +37,7 @@ abbrev pub bytes1 : List ℕ
 bytes1 = 0x20 ∷ 0x21 ∷ 0x22 ∷ 0x23 ∷ 0x24 ∷ 0x25 ∷ 0x26 ∷ 0x27 ∷ 0x28 ∷ 0x29 ∷ 0x2A ∷ 0x2B ∷ 0x2C ∷ 0x2D ∷ 0x2E ∷ 0x2F ∷ []
 
 abbrev pub coded : List ℕ → Pages
-coded code = pages (code ++ drop (length code) bytes0) bytes1
+coded code = writable (code ++ drop (length code) bytes0) bytes1
 
 -- A is 75, X 0008, Y 0009, U 000A, S 000C, P 0000; BF is set, all else is 0
 unfoldable pub start_record : Lh5801
@@ -177,7 +177,7 @@ interrupted s = with_s (with_ir1 enabled true) s
 
 -- page 0 has 65,536 bytes, all 00
 abbrev pub long : Pages
-long = pages (replicate 65_536 0x00) []
+long = writable (replicate 65_536 0x00) []
 
 -- is FFFA read before it has been written, and is FFFB?
 abbrev pub vector_first : Pages → List Access → List Bool

@@ -4,7 +4,7 @@ use Prim.Native.Char.{code}
 use Prim.Native.String.{String, [] as no_text, ◌∷◌ as ◌∷ₜ◌}
 use Rattle.arithmetic.specs.declared.record.Lh5801.{Lh5801}
 use Rattle.arithmetic.specs.Record.{with_tm, with_is_timer_reached}
-use Rattle.pages.specs.Pages.{Pages, pages}
+use Rattle.pages.specs.Pages.{Pages, writable}
 use Rattle.pages.specs.Prog.{Ran}
 use Rattle.pages.specs.Timer.{timer_inc_of}
 use Rattle.execution.specs.Inputs.{of_keyboard}
@@ -56,7 +56,7 @@ cpu a t x u p states = record_of (a ∷ t ∷ x ∷ 0 ∷ u ∷ 0 ∷ p ∷ 0 �
 
 -- a page 0 of two bytes, the opcode at 0
 abbrev pub code2 : ℕ → ℕ → Pages
-code2 opcode byte = pages (opcode ∷ byte ∷ []) []
+code2 opcode byte = writable (opcode ∷ byte ∷ []) []
 
 -- one step that executes a first-page opcode: record and pages before; record, states and pages after
 abbrev pub executes : ℕ → ℕ → Lh5801 → Pages → Lh5801 → ℕ → Pages → MarkedCase
@@ -88,7 +88,7 @@ timer tm reached = with_is_timer_reached (with_tm (cpu 0 0 0 0 0 0) tm) reached
 
 -- page 0 has 65,536 bytes: 8E at FFFE, its offset 00 at FFFF
 abbrev pub last_bytes : Pages
-last_bytes = pages (replicate 65_534 0 ++ (0x8E ∷ 0x00 ∷ [])) []
+last_bytes = writable (replicate 65_534 0 ++ (0x8E ∷ 0x00 ∷ [])) []
 
 -- the characters of a text, each as its byte
 abbrev pub ascii : String → List ℕ

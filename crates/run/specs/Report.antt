@@ -1,6 +1,6 @@
 -- A campaign file, from its bytes to the line that the program prints (document 01, "Campaign file").
 use Rattle.std.specs.Prelude.{ℕ, List, None}
-use Rattle.pages.specs.Pages.{Pages, pages}
+use Rattle.pages.specs.Pages.{Pages, writable}
 use Rattle.execution.specs.Inputs.{of_keyboard}
 use Rattle.run.specs.declared.campaign_file.Asked.{Asked}
 use Rattle.run.specs.declared.campaign_file.Parsed.{Parsed}
@@ -12,9 +12,9 @@ use Rattle.run.specs.CampaignFile.{refusal_number, refusal_offset, Field, read, 
 use Rattle.run.specs.Parts.{part}
 use Rattle.run.specs.Line.{line_of, refusal_line_of}
 
--- the two pages that a file holds
+-- the two pages that a file holds; nothing of them is read-only
 abbrev pub pages_in : List ℕ → Parsed → Pages
-pages_in bytes c = pages (part bytes c.page0.at c.page0.len) (part bytes c.page1.at c.page1.len)
+pages_in bytes c = writable (part bytes c.page0.at c.page0.len) (part bytes c.page1.at c.page1.len)
 
 -- what a call is given by what a file asks: nothing but the keyboard byte and the limit
 abbrev pub settings_in : Asked → Settings

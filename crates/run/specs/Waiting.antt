@@ -3,7 +3,7 @@
 use Rattle.std.specs.Prelude.{ℕ, ◌-◌, ◌^◌, List, [], ◌∷◌, ◌++◌, replicate}
 use Rattle.arithmetic.specs.declared.record.Lh5801.{Lh5801}
 use Rattle.execution.specs.declared.Stop.TheVariants.{Halted}
-use Rattle.pages.specs.Pages.{Pages, pages}
+use Rattle.pages.specs.Pages.{Pages, writable}
 use Rattle.pages.specs.Prog.{Access, read_of, write_of, Ran}
 use Rattle.execution.specs.Step.{off, held, interrupt, waiting, StepEnd, did, stopped}
 use Rattle.run.specs.declared.End.TheVariants.{AllSteps}
@@ -21,7 +21,7 @@ pub record HaltedCase : Type 0 where
   pub comes : Ran StepEnd
 
 abbrev pub empty : Pages
-empty = pages [] []
+empty = writable [] []
 
 -- how it ends, and its accesses; it stops with 7; it waits
 abbrev pub ends : ℕ → Lh5801 → StepEnd → List Access → HaltedCase
@@ -69,7 +69,7 @@ park_record = record_of (0 ∷ 2 ∷ 0 ∷ 0 ∷ 0 ∷ 0x0004 ∷ 0x0000 ∷ 0x1
 
 -- page 0 has 65,536 bytes: three bytes at 0002, and the vector's two at FFFA
 abbrev pub park_pages : ℕ → ℕ → ℕ → Pages
-park_pages a b c = pages (0xFD ∷ 0xB1 ∷ a ∷ b ∷ c ∷ (replicate 65_525 0x00 ++ (0x12 ∷ 0x34 ∷ 0x00 ∷ 0x00 ∷ 0x00 ∷ 0x00 ∷ []))) []
+park_pages a b c = writable (0xFD ∷ 0xB1 ∷ a ∷ b ∷ c ∷ (replicate 65_525 0x00 ++ (0x12 ∷ 0x34 ∷ 0x00 ∷ 0x00 ∷ 0x00 ∷ 0x00 ∷ []))) []
 
 -- seven steps with the idle figure 20: HLT, 9 states; five that wait, 20 states each, with shifts after the second, to 1FE, and the fifth, to 1FF; and
 -- the timer's entry, which pushes T with IE and P 0002

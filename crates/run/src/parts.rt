@@ -29,7 +29,7 @@ pub fn run_parts(
     settings: Settings,
 ) -> Answer
     requires { (len0 ≤ length page0.old) × (len1 ≤ length page1.old) }
-    ensures { RunParts settings read_only is_lent log.old cpu page0.old len0 page1.old len1 result page0.new page1.new log.new }
+    ensures { RunParts settings is_lent log.old cpu page0.old len0 page1.old len1 read_only result page0.new page1.new log.new }
 {
     crate::run(
         cpu,

@@ -4,6 +4,7 @@ use Rattle.std.specs.Prelude.{Some, slice_index_or}
 use lib.ListN.{length-map}
 use Rattle.arithmetic.specs.declared.record.Lh5801.{Lh5801}
 use Rattle.arithmetic.specs.Widths.{Widths}
+use Rattle.pages.specs.declared.ReadOnly.{ReadOnly}
 use Rattle.pages.specs.Pages.{Pages, pages, at}
 use Rattle.pages.specs.Prog.{Access, read_of, write_of}
 use Rattle.pages.specs.Widths.{AllBytes, AllFit}
@@ -106,9 +107,9 @@ unfolding taken_of record_of
 given_widths words = record { a = omega arith; t = omega arith; x = omega arith; y = omega arith; u = omega arith; s = omega arith; p = omega arith }
 
 -- pages of bytes
-pub given_bytes : (page0 page1 : List ℕ) → Bytes page0 → Bytes page1 → AllBytes (pages page0 page1)
+pub given_bytes : (page0 page1 : List ℕ) (r : ReadOnly) → Bytes page0 → Bytes page1 → AllBytes (pages page0 page1 r)
 unfolding at
-given_bytes page0 page1 f g a = go (ltb a 0x10000)
+given_bytes page0 page1 r f g a = go (ltb a 0x10000)
   where
     byte_in : (l : List ℕ) → Bytes l → (i : ℕ) → slice_index_or l i 0xFF < 0x100
     byte_in [] h i = omega arith

@@ -2,7 +2,7 @@
 #![tactic(auto)]
 
 ghost use Rattle.std.specs.Prelude.{◌≡◌};
-ghost use Rattle.pages.specs.Pages.{pages};
+ghost use Rattle.pages.specs.Pages.{pages, read_only_of};
 ghost use Rattle.execution.specs.Inputs.{inputs_of};
 ghost use Rattle.run.specs.RecordNumbers.{AllWithin};
 ghost use Rattle.run.specs.BusLog.{log_of, free_in, lent_if};
@@ -53,7 +53,7 @@ fn words_of(r: Answer) -> [u64; 16]
 }
 
 /// The run call; the used count after it is returned. `logged` says whether the log is lent. In C: lh5801_call(words, page0, length0, page1, length1, limit, keyboard, idle, logged, log,
-/// log_length, log_used).
+/// log_length, log_used, read_only_first, read_only_end).
 #[unsafe(no_mangle)]
 pub extern "C" fn lh5801_call(
     words: &mut [u64; 16],
@@ -68,7 +68,7 @@ pub extern "C" fn lh5801_call(
     read_only_first: u32,
     read_only_end: u32,
 ) -> usize
-    ensures { Left (call_of (settings (inputs_of keyboard idle) limit) (free_in (lent_if logged (log_of log.old log_used))) (cpu_of words.old) (pages page0.old page1.old)) logged (log_of log.old log_used) (log_of log.new result) words.new (pages page0.new page1.new) }
+    ensures { Left (call_of (settings (inputs_of keyboard idle) limit) (free_in (lent_if logged (log_of log.old log_used))) (cpu_of words.old) (pages page0.old page1.old (read_only_of read_only_first read_only_end))) logged (log_of log.old log_used) (log_of log.new result) words.new (pages page0.new page1.new (read_only_of read_only_first read_only_end)) }
 {
     let numbers = taken(words);
     let cpu = record_numbers::record_of(&numbers);

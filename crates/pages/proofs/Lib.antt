@@ -1,4 +1,5 @@
 pub mod Pages
+pub mod Protected
 pub mod Exec
 pub mod Agree
 pub mod Does

@@ -1,5 +1,6 @@
 -- The laws of the two pages as one memory.
 use Rattle.std.proofs.Common.{◌≡◌, ℕ, zero, suc, ◌-◌, ◌<◌, ◌≤◌, Bool, true, false, cond, not, ◌&&◌, eqb, ltb, List, [], ◌∷◌, length, get_or, set, sym, refl, ap, ◌∙◌, le_of_suc-le-suc, not-suc-le-zero, arith, length-set, get_or-set_other, get_or-set_same, ltb-false, ltb-true, le-ltb, lt-ltb, eqb-true}
+use Rattle.std.proofs.lemmas.Bool.{and_parts}
 use lib.ListN.{get_or-eq_default}
 use borrow.Author.Tests.{eqb-false}
 use Rattle.pages.specs.Pages.{Pages, at, inside, protected, stored, set_byte, store, SameLayout}
@@ -25,11 +26,7 @@ stored_layout s a = rw (inside_layout s a, ← s.read_only)
 -- what is stored goes into a byte of a lent page
 pub stored_inside : (m : Pages) (a : ℕ) → stored m a ≡ true → inside m a ≡ true
 unfolding stored
-stored_inside m a = go (inside m a) (not (protected m.read_only a))
-  where
-    go : (i n : Bool) → i && n ≡ true → i ≡ true
-    go true n h = refl
-    go false n h = h
+stored_inside m a h = (and_parts (inside m a) (not (protected m.read_only a)) h).0
 
 -- past the end reads FF
 pub at_outside : (m : Pages) (a : ℕ) → inside m a ≡ false → at m a ≡ 0xFF

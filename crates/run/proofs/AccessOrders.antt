@@ -29,7 +29,7 @@ unfolding with_a with_t with_x with_y with_u with_s with_p with_is_halted with_b
 stepped inputs m p = one_step inputs m p
 
 -- the keyboard byte is 77
-abbrev pressed : Inputs
+abbrev pub pressed : Inputs
 pressed = of_keyboard 0x77
 
 abbrev pub step_seen : Lh5801 → Pages → Seen

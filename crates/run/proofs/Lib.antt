@@ -16,4 +16,5 @@ pub mod Reading
 pub mod Marked
 pub mod AccessOrders
 pub mod Waiting
+pub mod Protected
 pub mod Widths

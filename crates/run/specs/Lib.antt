@@ -15,3 +15,4 @@ pub mod Report
 pub mod Marked
 pub mod AccessOrders
 pub mod Waiting
+pub mod Protected

@@ -1,0 +1,151 @@
+-- Steps and calls on pages of which a part is read-only (document 02, F-4): what must come out. proofs/Protected.antt has the theorems over them.
+use Rattle.std.specs.Prelude.{ℕ, true, false, Bool, List, [], ◌∷◌, map}
+use Rattle.arithmetic.specs.declared.record.Lh5801.{Lh5801}
+use Rattle.arithmetic.specs.Record.{with_x, with_bf}
+use Rattle.pages.specs.declared.ReadOnly.{ReadOnly}
+use Rattle.pages.specs.Pages.{Pages, read_only_of, at}
+use Rattle.pages.specs.Prog.{Access, read_of, write_of, Ran}
+use Rattle.execution.specs.Step.{StepEnd, did, stopped}
+use Rattle.run.specs.AccessOrders.{Seen, seen_of, coded, start_record, interrupted, long, CallCase, wrote}
+
+-- what is seen of a step: as in AccessOrders.antt; S after it; and what some addresses hold after it
+pub record ProtectedSeen : Type 0 where
+  pub seen : Seen
+  pub s : ℕ
+  pub bytes : List ℕ
+
+abbrev pub s_after : Lh5801 → StepEnd → ℕ
+s_after m (did k states kind) = k.s
+s_after m (stopped s) = m.s
+
+abbrev pub protected_seen : Lh5801 → List ℕ → Ran StepEnd → ProtectedSeen
+protected_seen m addresses r = record { seen = seen_of r.answer r.accesses; s = s_after m r.answer; bytes = map (at r.pages) addresses }
+
+-- a step, the addresses that are looked at after it, and what it must come to
+pub record ProtectedCase : Type 0 where
+  pub cpu : Lh5801
+  pub pages : Pages
+  pub addresses : List ℕ
+  pub comes : ProtectedSeen
+
+-- pages with this part of page 0 read-only
+abbrev pub with_read_only : ReadOnly → Pages → Pages
+with_read_only r p = record p { read_only = r }
+
+-- record, pages, part and addresses; states, accesses, S and bytes
+abbrev pub leaves : Lh5801 → Pages → ReadOnly → List ℕ → ℕ → List Access → ℕ → List ℕ → ProtectedCase
+leaves m p r addresses states l s bytes = record {
+  cpu = m;
+  pages = with_read_only r p;
+  addresses = addresses;
+  comes = record { seen = record { number = 0; states = states; accesses = l }; s = s; bytes = bytes };
+}
+
+-- PSH A pushes 75 at 000C, where 1C is; with this part, what 000C holds after it
+abbrev pub psh_pushes : ReadOnly → ℕ → ProtectedCase
+psh_pushes r byte =
+    leaves start_record (coded (0xFD ∷ 0xC8 ∷ [])) r (0x0C ∷ []) 11 (read_of 0x00 0xFD ∷ read_of 0x01 0xC8 ∷ write_of 0x0C 0x75 ∷ []) 0x0B (byte ∷ [])
+
+-- SJP pushes 0003 at 000C and 000B, where 1C and 1B are
+abbrev pub sjp_pushes : ReadOnly → ℕ → ℕ → ProtectedCase
+sjp_pushes r low high =
+    leaves start_record (coded (0xBE ∷ 0x00 ∷ 0x0B ∷ [])) r (0x0C ∷ 0x0B ∷ []) 19
+    (read_of 0x00 0xBE ∷ read_of 0x01 0x00 ∷ read_of 0x02 0x0B ∷ write_of 0x0C 0x03 ∷ write_of 0x0B 0x00 ∷ []) 0x0A (low ∷ high ∷ [])
+
+-- STA at 0008, where 18 is, and at 10008, where 28 is
+abbrev pub sta_on_0 : ReadOnly → ℕ → ProtectedCase
+sta_on_0 r byte = leaves start_record (coded (0x0E ∷ [])) r (0x08 ∷ []) 6 (read_of 0x00 0x0E ∷ write_of 0x08 0x75 ∷ []) 0x0C (byte ∷ [])
+
+abbrev pub sta_on_1 : ReadOnly → ℕ → ProtectedCase
+sta_on_1 r byte =
+    leaves start_record (coded (0xFD ∷ 0x0E ∷ [])) r (0x10008 ∷ []) 10 (read_of 0x00 0xFD ∷ read_of 0x01 0x0E ∷ write_of 0x10008 0x75 ∷ []) 0x0C (byte ∷ [])
+
+-- an interrupt with S at FFFB on a page of zeros: T, 02, is pushed at FFFB and P's low byte, 04, at FFFA. With this part, what the vector reads, and so
+-- what FFFA and FFFB hold
+abbrev pub enters : ReadOnly → ℕ → ℕ → ProtectedCase
+enters r high low =
+    leaves (interrupted 0xFFFB) long r (0xFFFA ∷ 0xFFFB ∷ 0xFFF9 ∷ []) 0
+    (write_of 0xFFFB 0x02 ∷ write_of 0xFFFA 0x04 ∷ write_of 0xFFF9 0x03 ∷ read_of 0xFFFA high ∷ read_of 0xFFFB low ∷ []) 0xFFF8 (high ∷ low ∷ 0x03 ∷ [])
+
+unfoldable pub protected_cases : List ProtectedCase
+protected_cases =
+    -- a push into the part moves S and is an access, and the byte stays. The first address is in it, the end is not
+    psh_pushes (read_only_of 0x0C 0x0D) 0x1C
+    ∷ psh_pushes (read_only_of 0x00 0x0C) 0x75
+    ∷ psh_pushes (read_only_of 0x0D 0x10) 0x75
+    -- the end equal to the first, and below it
+    ∷ psh_pushes (read_only_of 0x0C 0x0C) 0x75
+    ∷ psh_pushes (read_only_of 0x0D 0x0C) 0x75
+    ∷ psh_pushes (read_only_of 0xFFFFFFFF 0) 0x75
+    -- the end at 65,536 and above
+    ∷ psh_pushes (read_only_of 0x00 0x10000) 0x1C
+    ∷ psh_pushes (read_only_of 0x0C 0xFFFFFFFF) 0x1C
+    -- one byte of a word that is pushed
+    ∷ sjp_pushes (read_only_of 0x0C 0x0D) 0x1C 0x00
+    ∷ sjp_pushes (read_only_of 0x0B 0x0C) 0x03 0x1B
+    -- page 1 has no such part, whatever first and end are; a first above page 0 protects nothing
+    ∷ sta_on_0 (read_only_of 0x00 0xFFFFFFFF) 0x18
+    ∷ sta_on_1 (read_only_of 0x00 0xFFFFFFFF) 0x75
+    ∷ sta_on_1 (read_only_of 0x10008 0x10009) 0x75
+    ∷ sta_on_1 (read_only_of 0x08 0x09) 0x75
+    ∷ sta_on_0 (read_only_of 0x10000 0x20000) 0x75
+    -- a part past the end of page 0, which has 16 bytes: a write there is dropped with it or without
+    ∷ leaves (with_x start_record 0x40) (coded (0x0E ∷ [])) (read_only_of 0x40 0x50) (0x40 ∷ []) 6 (read_of 0x00 0x0E ∷ write_of 0x40 0x75 ∷ []) 0x0C (0xFF ∷ [])
+    ∷ sta_on_0 (read_only_of 0x40 0x50) 0x75
+    -- what is read, changed and written back in the part is read as it was; DRL takes A's digits from it all the same
+    ∷ leaves start_record (coded (0xD7 ∷ [])) (read_only_of 0x08 0x09) (0x08 ∷ []) 12 (read_of 0x00 0xD7 ∷ read_of 0x08 0x18 ∷ write_of 0x08 0x87 ∷ []) 0x0C (0x18 ∷ [])
+    -- a vector whose bytes are protected reads the old ones after the pushes
+    ∷ enters (read_only_of 0xFFFA 0xFFFC) 0x00 0x00
+    ∷ enters (read_only_of 0xFFFB 0x10000) 0x04 0x00
+    ∷ enters (read_only_of 0xFFFA 0xFFFB) 0x00 0x02
+    ∷ enters (read_only_of 0xFFFC 0x10000) 0x04 0x02
+    -- a step with BF clear
+    ∷ leaves (with_bf start_record false) (coded (0x0E ∷ [])) (read_only_of 0x00 0x10000) (0x00 ∷ 0x08 ∷ 0x0C ∷ []) 8 [] 0x0C (0x0E ∷ 0x18 ∷ 0x1C ∷ [])
+    ∷ []
+
+-- ---- what is read before it is written: a dropped write leaves its byte unwritten
+
+-- parts, and with each of them whether the entry above reads FFFA first, and FFFB
+pub record FirstCase : Type 0 where
+  pub read_only : ReadOnly
+  pub first : List Bool
+
+abbrev pub reads_first : ReadOnly → Bool → Bool → FirstCase
+reads_first r high low = record { read_only = r; first = high ∷ low ∷ [] }
+
+unfoldable pub first_cases : List FirstCase
+first_cases =
+    reads_first (read_only_of 0 0) false false
+    ∷ reads_first (read_only_of 0xFFFA 0xFFFC) true true
+    ∷ reads_first (read_only_of 0xFFFA 0xFFFB) true false
+    ∷ reads_first (read_only_of 0xFFFB 0xFFFC) false true
+    ∷ reads_first (read_only_of 0xFFFC 0xFFFF) false false
+    ∷ reads_first (read_only_of 0x00 0x20000) true true
+    ∷ []
+
+-- STA at 0008 and then LDA from there; and both on page 1
+abbrev pub sta_and_lda : ReadOnly → Pages
+sta_and_lda r = with_read_only r (coded (0x0E ∷ 0x05 ∷ []))
+
+abbrev pub sta_and_lda_on_1 : ReadOnly → Pages
+sta_and_lda_on_1 r = with_read_only r (coded (0xFD ∷ 0x0E ∷ 0xFD ∷ 0x05 ∷ []))
+
+-- two steps of the first: the write is in the sequence, dropped or not. With this part, what LDA reads, and whether 0008 is read first
+abbrev pub loads : ReadOnly → ℕ → Bool → CallCase
+loads r byte first = record {
+  limit = 2;
+  cpu = start_record;
+  pages = sta_and_lda r;
+  comes = record {
+    number = 0;
+    byte = 0;
+    steps = 2;
+    states = 12;
+    wrote = wrote 0x08 0x75;
+    accesses = read_of 0x00 0x0E ∷ write_of 0x08 0x75 ∷ read_of 0x01 0x05 ∷ read_of 0x08 byte ∷ [];
+    first = true ∷ true ∷ false ∷ first ∷ [];
+  };
+}
+
+unfoldable pub lda_calls : List CallCase
+lda_calls = loads (read_only_of 0x08 0x09) 0x18 true ∷ loads (read_only_of 0x00 0x08) 0x75 false ∷ loads (read_only_of 0x00 0x20000) 0x18 true ∷ []

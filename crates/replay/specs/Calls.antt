@@ -1,6 +1,7 @@
 -- One call of the list, an item of the list, and the whole list.
 use Rattle.std.specs.Prelude.{◌≡◌, ℕ, zero, suc, ◌+◌, ◌*◌, ◌<◌, ◌≤◌, Bool, true, cond, not, ◌||◌, List, length, take, drop, replicate, ◌==◌, nat_lt, slice_index, Option, None, Some}
 use Rattle.std.specs.Int.{from_bool}
+use Rattle.pages.specs.Pages.{read_only_of}
 use Rattle.pages.specs.Prog.{Access}
 use Rattle.run.specs.declared.campaign_file.Parsed.{Parsed}
 use Rattle.run.specs.declared.campaign_file.Refusal.{Refusal}
@@ -56,12 +57,12 @@ abbrev pub log_left : Option ℕ → List Access → Log
 log_left None l = log_of unused 0
 log_left (Some used) l = with_entries (log_of unused used) l
 
--- the call of an item's file, which was read, on the pages and with the log that the item lends
+-- the call of an item's file, which was read, on the pages, with the read-only part and with the log that the item lends
 unfoldable pub call_result_of : ItemValue → Parsed → CallResult
 call_result_of item c =
     run_parts_of (settings_in c.asked) (free_in (lent_log item.lent.log)) c.cpu
     (patch_of (filled_page_of blank item.lent.len0 item.lent.rule item.file c.page0) 0 item.sets) item.lent.len0
-    (patch_of (filled_page_of blank item.lent.len1 item.lent.rule item.file c.page1) 1 item.sets) item.lent.len1
+    (patch_of (filled_page_of blank item.lent.len1 item.lent.rule item.file c.page1) 1 item.sets) item.lent.len1 item.lent.read_only
 
 -- the sums over both pages after a call, then over all entries of the list, then over the used count
 abbrev pub result_sums : Option ℕ → CallResult → Sums
@@ -117,6 +118,8 @@ item_in = do
   len1 ← number 4
   bytes ← taken 4
   used ← number 2
+  first ← number 4
+  end ← number 4
   file ← taken file_len
   line ← taken (slice_index bytes 0)
   sets ← taken (4 * slice_index bytes 3)
@@ -124,7 +127,7 @@ item_in = do
   second_sum ← number 8
   given (record {
     file = file;
-    lent = record { len0 = len0; len1 = len1; rule = record { first = slice_index bytes 1; step = slice_index bytes 2 }; log = log_in used };
+    lent = record { len0 = len0; len1 = len1; rule = record { first = slice_index bytes 1; step = slice_index bytes 2 }; read_only = read_only_of first end; log = log_in used };
     sets = sets;
     want = line;
     want_sums = record { first = first_sum; second = second_sum };

@@ -8,8 +8,8 @@
 //! at every place, with bytes left over, with each field too great or too long, and with random bytes changed; their lines are the oracle's own reading,
 //! for the original has none.
 //! An item, its numbers lowest byte first: the campaign file's length (2 bytes), the two pages' lengths (4 each), the line's length (1), the fill
-//! rule's first byte and step (1 each), how many bytes are set after it (1), the log's used count, or 65,535 where no log is lent (2); the campaign file;
-//! document 01's line; for each byte that is set its offset (2), page (1) and value (1); the two sums over what the call leaves (8 each): both pages, then
+//! rule's first byte and step (1 each), how many bytes are set after it (1), the log's used count, or 65,535 where no log is lent (2), first and end of
+//! the read-only part (4 each); the campaign file; document 01's line; for each byte that is set its offset (2), page (1) and value (1); the two sums over what the call leaves (8 each): both pages, then
 //! all entries of the list, then the used count. The pages lent are as long as the item says: the fill rule, then the campaign file's bytes at their start,
 //! then the bytes that are set. So pages can be longer than a campaign file holds. The list has 64 entries, each FFFFFFFF before the call, also where no
 //! log is lent; the used count is then 0.
@@ -23,6 +23,7 @@ ghost use Rattle.replay.specs.Bytes.{fill_of, copy_page_of, patch_of, filled_pag
 ghost use Rattle.replay.specs.Calls.{item_value, refusal_differs_of, log_in, call_differs_of, differs_of, taken, number, item_in, replay_of, Replayed};
 
 use bus::BusLog;
+use pages::ReadOnly;
 use run::campaign_file::{PagePlace, Parsed, Refusal};
 use run::{Settings, campaign_file, line, parts, report};
 use std::io::Read;
@@ -55,12 +56,13 @@ struct Rule {
     step: u8,
 }
 
-// What an item lends its call: pages of two lengths, made by the fill rule, and a log, of which so many entries are used.
+// What an item lends its call: pages of two lengths, made by the fill rule, with a read-only part, and a log, of which so many entries are used.
 #[derive(Clone, Copy)]
 struct Lent {
     len0: usize,
     len1: usize,
     rule: Rule,
+    read_only: ReadOnly,
     log: Option<usize>,
 }
 
@@ -227,7 +229,15 @@ impl Item<'_> {
             used: lent.log.unwrap_or(0),
         };
         let settings = Settings::from(c.asked);
-        let answer = run::run(c.cpu, page0, page1, lent.log.is_some(), &mut log, settings);
+        let answer = run::run(
+            c.cpu,
+            page0,
+            page1,
+            lent.read_only,
+            lent.log.is_some(),
+            &mut log,
+            settings,
+        );
         let n = report::answer_line(&mut out, answer);
         let sums = sums_after(page0, page1, &log);
         (&out[..n] != self.want) | (sums != self.want_sums)
@@ -281,13 +291,17 @@ impl<'a> Items<'a> {
     #[tactic(auto, unfolding(crate::specs::Calls::item_in, crate::specs::Calls::number, crate::specs::Numbers::number_at))]
     fn item(&mut self) -> Option<Item<'a>>
         ensures item { MatchOption result (item_in self.old.left.now ≡ None) (λ item. item_in self.old.left.now ≡ Some (item_value item, self.new.left.now)) }
-        ensures shorter { IfSome result (λ _. length self.new.left.now + 32 ≤ length self.old.left.now) }
+        ensures shorter { IfSome result (λ _. length self.new.left.now + 40 ≤ length self.old.left.now) }
     {
         let file_len = u16::from_le_bytes(self.read_array()?);
         let len0 = u32::from_le_bytes(self.read_array()?) as usize;
         let len1 = u32::from_le_bytes(self.read_array()?) as usize;
         let [line_len, first, step, set_count] = self.read_array::<4>()?;
         let used = u16::from_le_bytes(self.read_array()?);
+        let read_only = ReadOnly {
+            first: u32::from_le_bytes(self.read_array()?),
+            end: u32::from_le_bytes(self.read_array()?),
+        };
         let file = self.read_bytes(usize::from(file_len))?;
         let want = self.read_bytes(usize::from(line_len))?;
         let sets = self.read_bytes(4 * usize::from(set_count))?;
@@ -299,6 +313,7 @@ impl<'a> Items<'a> {
             len0,
             len1,
             rule: Rule { first, step },
+            read_only,
             log: log_of(used),
         };
         Some(Item {

@@ -38,7 +38,7 @@ enum Kind {
 fn after_write(view: View, s: u16, v: u8, addr: u32, b: u8) -> u8
     ensures { result ≡ after_write (as_shared view) s v addr b }
 {
-    if (addr == u32::from(s)) & view.stores(u32::from(s)) {
+    if (addr == u32::from(s)) & view.stores(addr) {
         v
     } else {
         b

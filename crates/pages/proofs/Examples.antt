@@ -6,8 +6,10 @@ use Rattle.arithmetic.specs.Record.{with_a, with_t, with_s, with_tm, with_is_tim
 use Rattle.arithmetic.specs.Logic.{lda_of}
 use Rattle.pages.specs.declared.Code.{Code}
 use Rattle.pages.specs.declared.Popped.{Popped}
-use Rattle.pages.specs.Pages.{Pages, writable, at, inside, protected, stored, set_byte, store}
+use Rattle.pages.specs.declared.ReadOnly.{ReadOnly}
+use Rattle.pages.specs.Pages.{Pages, writable, read_only_of, at, inside, protected, stored, set_byte, store}
 use Rattle.pages.specs.Prog.{Prog, done, ◌>>=◌, read, write, Access, read_of, write_of, Ran, after, exec}
+use Rattle.pages.specs.Written.{read_first}
 use Rattle.pages.specs.Stack.{readop_of, readop_word_of, mem16_of, push_of, push_word_of, pop_of, pop_word_of}
 use Rattle.pages.specs.Timer.{shift_of, timer_inc_of, passed_of, timer_part_of}
 
@@ -71,6 +73,18 @@ pub examples_hold : (m : Lh5801)
     → map (λ (e : Example). exec e.program small) (examples m) ≡ map (λ (e : Example). e.comes) (examples m)
 unfolding examples exec after at inside protected stored set_byte store ◌>>=◌ read write readop_of readop_word_of mem16_of push_of push_word_of pop_of pop_word_of with_a with_t with_s lda_of
 examples_hold m = refl
+
+-- is a byte read first that was written before, with this read-only part?
+abbrev pub first_after_a_write : ReadOnly → ℕ → Bool
+first_after_a_write r a = read_first (record small { read_only = r }) a (write_of a 0xAA ∷ read_of a 0x00 ∷ [])
+
+-- below the part, in it, at its end, in one that ends where it begins; past the page's end; on page 1
+pub first_after_a_write_is :
+    first_after_a_write (read_only_of 2 3) 1 ∷ first_after_a_write (read_only_of 1 2) 1 ∷ first_after_a_write (read_only_of 0 1) 1
+    ∷ first_after_a_write (read_only_of 1 1) 1 ∷ first_after_a_write (read_only_of 0 0) 4 ∷ first_after_a_write (read_only_of 0 0x20000) 0x10001 ∷ []
+    ≡ false ∷ true ∷ false ∷ false ∷ true ∷ false ∷ []
+unfolding read_first inside protected stored
+first_after_a_write_is = refl
 
 -- the timer's part of a record
 pub record Timer : Type 0 where

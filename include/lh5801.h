@@ -3,7 +3,7 @@
  * comparison of its bus log with an analyser's list.
  *
  * "Document 01" is the requirement that the unit is proved against; the numbers below are its own.
- * "F-1", "F-2" and "F-3" are requests of document 02, which came after it.
+ * "F-1" to "F-4" are requests of document 02, which came after it.
  * `rt lib` in crates/lh5801 writes crates/lh5801/out/liblh5801.a for x86-64.
  * Usable from C (C99 and later) and C++.
  *
@@ -72,6 +72,14 @@
  *   log_used   how many of them are used. It goes in and comes back: the first entry is appended at
  *              this place, and it is raised by one for each. So a run may be cut into calls that
  *              hand on the struct, and the log is the same as that of one call.
+ *
+ *   read_only_first, read_only_end
+ *              F-4, a part of page 0 that no routine can write: from the first address up to, not
+ *              including, the end. A write to it is dropped as one past the page's end is: the byte
+ *              stays, and the write is an entry of the log. S moves on a dropped push, and nothing
+ *              else of a step changes; what reads the byte later gets the old one, a vector after
+ *              its own pushes too. With the end at or below the first nothing is read-only. Both
+ *              may be 65,536 or more; page 1 has no such part, whatever they are.
  *
  * A setting of zero asks for nothing: a struct with its limit and keyboard byte set and zeros
  * elsewhere gives what lh5801_run gives. lh5801_run_with changes nothing in the struct but log_used.

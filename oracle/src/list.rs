@@ -48,7 +48,7 @@ impl Sparse {
             place.copy_from_slice(bytes);
         }
         let inputs = Inputs::of_keyboard(self.keyboard);
-        Ok(Call { record: self.record, inputs, limit: self.limit, pages, bus_log: None })
+        Ok(Call { record: self.record, inputs, limit: self.limit, pages, ..Call::default() })
     }
 }
 

@@ -24,25 +24,25 @@ pub fn groups() -> Vec<(&'static str, Calls)> {
 }
 
 /// A log of this length with so many used, full of numbers that mean nothing.
-fn garbage(length: usize, used: usize) -> BusLog {
+pub fn garbage(length: usize, used: usize) -> BusLog {
     let mut random = Random::new(0xF2, (length ^ used) as u64);
     let entries = (0..length).map(|_| random.next() as u32).collect();
     BusLog { entries, used }
 }
 
 /// Pages of these lengths; the byte at an offset is its low byte with these bits turned.
-fn filled(lengths: [usize; 2], turned: u8) -> [Vec<u8>; 2] {
+pub fn filled(lengths: [usize; 2], turned: u8) -> [Vec<u8>; 2] {
     lengths.map(|length| (0..length).map(|i| i as u8 ^ turned).collect())
 }
 
 /// BF set, nothing else.
-fn on() -> Record {
+pub fn on() -> Record {
     Record { bf: true, ..Record::default() }
 }
 
 /// Where an instruction and what it touches lie.
 #[derive(Clone, Copy)]
-struct Place {
+pub struct Place {
     lengths: [usize; 2],
     /// Page 0 ends behind the opcode: every operand is read past the end.
     cut: bool,
@@ -56,7 +56,7 @@ const INSIDE: Place =
 
 /// Inside both pages; past both ends; page 1 empty; operands past page 0's end; the last byte of
 /// both pages, the stack over it and just behind it; everything at the end of whole pages.
-const PLACES: [Place; 7] = [
+pub const PLACES: [Place; 7] = [
     INSIDE,
     Place { lengths: [128, 128], ..INSIDE },
     Place { lengths: [1024, 0], ..INSIDE },
@@ -67,7 +67,7 @@ const PLACES: [Place; 7] = [
 ];
 
 /// The opcodes of both pages, FD apart, in the bytes that are executed.
-fn listed() -> impl Iterator<Item = Vec<u8>> {
+pub fn listed() -> impl Iterator<Item = Vec<u8>> {
     (0..2).flat_map(|page| (0..=255_u8).map(move |byte| (page, byte))).filter_map(|(page, byte)| {
         let entry = table()[page][usize::from(byte)]?;
         let code = if page == 1 { vec![0xFD, byte] } else { vec![byte] };
@@ -94,7 +94,7 @@ fn opcodes() -> impl Iterator<Item = Call> {
 
 /// One instruction at its place. Its operand, where it has one, is the place's data address, and a
 /// byte behind it.
-fn instruction(opcode: &[u8], place: Place, t: u8) -> Call {
+pub fn instruction(opcode: &[u8], place: Place, t: u8) -> Call {
     let [high, low] = place.data.to_be_bytes();
     let operand = if place.cut { vec![] } else { vec![high, low, 0x5A] };
     let code = [opcode, &operand].concat();

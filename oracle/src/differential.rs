@@ -4,9 +4,8 @@
 //! starts the unit on them again and again; between two calls the record is sometimes changed, as a
 //! host may do. Each start has an idle figure, 0 for about half of them; with another one the unit
 //! waits where it is halted. In every fourth session each call of the port is lent a log, which is
-//! compared with the original's accesses and with the model's log. In half of these sessions' starts,
-//! and in every start of another two fourths, a part of page 0 is read-only. Every session depends on
-//! the seed and its own index only.
+//! compared with the original's accesses and with the model's log. In half of the starts a part of
+//! page 0 is read-only. Every session depends on the seed and its own index only.
 
 #![forbid(unsafe_code)]
 
@@ -18,9 +17,7 @@ use std::time::{Duration, Instant};
 
 use bare::{Pc1500, Returned, Watch};
 
-use crate::call::{
-    Access, Answer, BusLog, Call, Inputs, Log, ReadOnly, Record, MOST_ACCESSES,
-};
+use crate::call::{Access, Answer, BusLog, Call, Inputs, Log, ReadOnly, Record, MOST_ACCESSES};
 use crate::compare::{self, ends_in_words, report_smallest, slices, Comparison, Logs};
 use crate::drops::Drops;
 use crate::opcodes::table;
@@ -39,9 +36,10 @@ const LEAST_WAITS: u64 = 100;
 const SESSION: u64 = 30_000;
 /// Of a hundred starts with an idle figure above 0, so many are parked.
 const PARKED: u64 = 40;
-/// A session's kind goes round in so many: the first has a log, the second and the third have a
-/// read-only part in every start. Calls with a log or a read-only part run through the original's own
-/// panics and the model too; the others run on the original without its log.
+/// A session's kind goes round in so many: the first has a log; it and the second have a read-only
+/// part in half of their starts, the third has one in every start, the last has neither. Calls with a
+/// log or a read-only part run through the original's own panics and the model too; the others run on
+/// the original without its log.
 const KINDS: u64 = 4;
 /// Of a hundred steps that make an access at least so many have a log.
 const LEAST_LOGGED: u64 = 10;
@@ -354,7 +352,7 @@ impl Session<'_> {
     /// Another read-only part, or none.
     fn new_read_only(&mut self) {
         self.read_only = match self.kind {
-            0 if self.random.chance(50) => ReadOnly::default(),
+            0 | 1 if self.random.chance(50) => ReadOnly::default(),
             0..=2 => protect::read_only(&mut self.random, &self.record, &self.pages[0]),
             _ => ReadOnly::default(),
         };

@@ -154,9 +154,10 @@ mod tests {
     fn drops_are_counted() {
         let drops = counted(&stores(ReadOnly::new(8, 65_537), 9));
         let Drops { calls, empty, dropped, dropping, read_later, inside, page_1 } = drops;
-        assert_eq!([calls, empty, dropped, dropping, read_later, inside, page_1], [
-            1, 0, 1, 1, 1, 0, 1
-        ]);
+        assert_eq!(
+            [calls, empty, dropped, dropping, read_later, inside, page_1],
+            [1, 0, 1, 1, 1, 0, 1]
+        );
         let none = counted(&stores(ReadOnly::default(), 9));
         assert_eq!((none.calls, none.dropped, none.page_1), (0, 0, 0));
         let past = counted(&stores(ReadOnly::new(8, 65_536), 8));

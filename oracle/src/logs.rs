@@ -202,7 +202,14 @@ fn lists() -> impl Iterator<Item = Call> {
             page.resize(0x20, 0x38);
             let inputs = Inputs { keyboard: 0, idle };
             let bus_log = Some(garbage(length, used));
-            Call { record, inputs, limit: 5, pages: [page, vec![0x77; 0x20]], bus_log, ..Call::default() }
+            Call {
+                record,
+                inputs,
+                limit: 5,
+                pages: [page, vec![0x77; 0x20]],
+                bus_log,
+                ..Call::default()
+            }
         })
     })
 }

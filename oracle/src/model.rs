@@ -143,12 +143,7 @@ impl Model {
     }
 
     /// One step: the record after it and its states, or a stop.
-    fn step(
-        &self,
-        record: Record,
-        inputs: Inputs,
-        bus: &mut Bus,
-    ) -> Result<(Record, u64), Stop> {
+    fn step(&self, record: Record, inputs: Inputs, bus: &mut Bus) -> Result<(Record, u64), Stop> {
         bus.memory.begin_step();
         let mut step = Step {
             r: record,

@@ -52,7 +52,8 @@ fn around(address: u32) -> Vec<ReadOnly> {
     let (below, above) = (at.saturating_sub(1), at + 1);
     let near = [(at, above), (above, above + 1), (below, at), (below, above), (0, at), (0, above)];
     let far = [65_536, 65_537, 70_000, 131_072, u32::MAX].map(|end| (at, end));
-    let empty = [(at, at), (above, at), (above, below), (at, 0), (u32::MAX, above), (65_536, above)];
+    let empty =
+        [(at, at), (above, at), (above, below), (at, 0), (u32::MAX, above), (65_536, above)];
     let cut = [(0, 65_536), (0, 65_536 + at), (65_536, 65_536 + above), (above, 131_072)];
     let page_1 = [(65_536, 131_072), (65_536 + at, 65_536 + above), (65_536 + at, u32::MAX)];
     let all = [&near[..], &far, &empty, &cut, &page_1].concat();
@@ -70,9 +71,8 @@ fn written(call: &Call) -> Vec<u32> {
 /// Each opcode that writes, at each place, with parts around each of its writes: of two pushed
 /// bytes one is inside and one outside.
 fn writes() -> impl Iterator<Item = Call> {
-    crate::logs::listed().flat_map(|opcode| {
-        PLACES.into_iter().flat_map(move |place| around_writes(&opcode, place))
-    })
+    crate::logs::listed()
+        .flat_map(|opcode| PLACES.into_iter().flat_map(move |place| around_writes(&opcode, place)))
 }
 
 /// An opcode at a place, with the flags clear or set, whichever makes it write.
@@ -196,7 +196,8 @@ fn edges() -> Vec<Protected> {
 /// that a pushed word is at 0020 and 001F; with S at 0000 it is there and at FFFF.
 fn stacks() -> Vec<Protected> {
     let record = Record { a: 0x5A, x: 0x1234, s: 0x0020, ..flagged(ON) };
-    let codes: [&[u8]; 3] = [&[0xFD, 0xC8, 0xFD, 0x8A], &[0xFD, 0x88, 0xFD, 0x0A], &[0xBE, 0, 3, 0x9A]];
+    let codes: [&[u8]; 3] =
+        [&[0xFD, 0xC8, 0xFD, 0x8A], &[0xFD, 0x88, 0xFD, 0x0A], &[0xBE, 0, 3, 0x9A]];
     let parts = [(0x20, 0x21), (0x1F, 0x20), (0x1F, 0x21), (0, 65_536)];
     let near = codes.into_iter().flat_map(|bytes| {
         let call = among(record, 3, bytes);

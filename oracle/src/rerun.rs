@@ -466,8 +466,8 @@ fn report(call: Call, seed: u64, index: u64) {
 
 #[cfg(test)]
 mod tests {
-    use super::{course, cut, First};
-    use crate::call::{Call, Record};
+    use super::{course, cut, protected_stays, First};
+    use crate::call::{Call, ReadOnly, Record};
     use crate::random::Random;
 
     #[test]
@@ -493,6 +493,32 @@ mod tests {
         assert_eq!((course.later_reads, course.inside), (2, 2));
         assert_eq!(course.writes.len(), 3);
         assert!(course.first[0].iter().all(|first| *first != First::Read));
+    }
+
+    /// The same with FFFA read-only: its write stores nothing, so that the vector reads it first.
+    #[test]
+    fn a_dropped_write_leaves_its_byte_unwritten() {
+        let record = Record { s: 0xFFFB, t: 2, bf: true, ir1: true, ..Record::default() };
+        let (pages, read_only) = ([vec![0x38; 65_536], vec![]], ReadOnly::new(0xFFFA, 0xFFFB));
+        let call = Call { record, limit: 1, pages, read_only, ..Call::default() };
+        let course = course(&call, &[1]).unwrap();
+        let [written, read, later] = [0xFFF9, 0xFFFA, 0xFFFB].map(|i| course.first[0][i]);
+        assert!(written == First::Written && read == First::Read && later == First::Written);
+        assert_eq!((course.later_reads, course.inside), (1, 1));
+        assert_eq!(course.writes.iter().map(|write| write.1).collect::<Vec<_>>(), [0xFFFB, 0xFFF9]);
+        let whole = Call { read_only: ReadOnly::new(0, u32::MAX), ..call };
+        let course = super::course(&whole, &[1]).unwrap();
+        assert!(course.first[0][0xFFF9] == First::None && course.writes.is_empty());
+        assert!(course.stored(&whole.pages) == whole.pages);
+    }
+
+    #[test]
+    fn a_changed_byte_of_the_part_is_seen() {
+        let part = ReadOnly::new(1, 3);
+        assert_eq!(protected_stays(part, &[1, 2, 3, 4], &[9, 2, 3, 9]), Ok(()));
+        assert!(protected_stays(part, &[1, 2, 3, 4], &[1, 9, 3, 4]).is_err());
+        assert!(protected_stays(part, &[1, 2, 3, 4], &[1, 2, 9, 4]).is_err());
+        assert_eq!(protected_stays(ReadOnly::new(4, 70_000), &[1], &[2]), Ok(()));
     }
 
     /// A stopping step's reads count; a read past the end and a dropped write do not.

@@ -121,3 +121,28 @@ impl Memory {
         (self.pages, Log { accesses, starts: self.starts, completed, vectors: self.vectors })
     }
 }
+
+#[cfg(test)]
+mod tests {
+    use super::Memory;
+    use crate::call::{Access, Call, ReadOnly};
+
+    /// Two bytes of page 0 are protected. A write there is an access and changes nothing; a read
+    /// after it finds the old byte; page 1 is stored to at the same offset.
+    #[test]
+    fn a_write_into_the_read_only_part_is_dropped() {
+        let (pages, read_only) = ([vec![1, 2, 3, 4], vec![5; 4]], ReadOnly::new(1, 3));
+        let mut memory = Memory::of(&Call { pages, read_only, ..Call::default() });
+        memory.begin_step();
+        for address in [0, 1, 2, 3, 4, 0x1_0001] {
+            memory.write(address, 9);
+        }
+        assert_eq!((memory.read(1), memory.read(3)), (2, 9));
+        let writes = [0, 1, 2, 3, 4, 0x1_0001].map(|address| Access::write(address, 9));
+        let reads = [Access::read(1, 2), Access::read(3, 9)];
+        assert_eq!(memory.step(), [&writes[..], &reads].concat());
+        assert_eq!(*memory.pages(), [vec![9, 2, 3, 9], vec![5, 9, 5, 5]]);
+        memory.undo_step();
+        assert_eq!(*memory.pages(), [vec![1, 2, 3, 4], vec![5; 4]]);
+    }
+}

@@ -691,3 +691,27 @@ impl Step<'_> {
         u16::from_be_bytes([high, low])
     }
 }
+
+#[cfg(test)]
+mod tests {
+    use super::kept;
+    use crate::call::{Call, ReadOnly};
+
+    /// Around every edge, a write is stored where it lies inside its page and is not protected.
+    #[test]
+    fn kept_addresses_are_those_that_are_not_protected() {
+        let edges = [0, 1, 2, 15, 16, 17, 0xFFFE, 0xFFFF, 0x1_0000, 0x1_0001, 0x1_0010, u32::MAX];
+        for length in [0, 1, 16, 0xFFFF, 0x1_0000] {
+            let mut call = Call { pages: [vec![0; length], vec![0; length]], ..Call::default() };
+            for (first, end) in edges.into_iter().flat_map(|first| edges.map(|end| (first, end))) {
+                call.read_only = ReadOnly::new(first, end);
+                let kept = kept(&call);
+                for address in edges.into_iter().filter(|address| *address < 0x2_0000) {
+                    let is_inside = ((address & 0xFFFF) as usize) < length;
+                    let is_kept = kept.iter().any(|addresses| addresses.contains(&address));
+                    assert_eq!(is_kept, is_inside && !call.read_only.has(address));
+                }
+            }
+        }
+    }
+}

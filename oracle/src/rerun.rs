@@ -421,7 +421,7 @@ fn storing(random: &mut Random) -> Vec<u8> {
 }
 
 /// In a run of so many cases read-only parts have to have done all that they can do.
-const MANY: u64 = 1000;
+const MANY: u64 = 2000;
 
 /// Runs the cases; true where demand 3 held in each, and read-only parts came as they have to.
 pub fn run(cases: u64, seed: u64) -> bool {

@@ -33,8 +33,17 @@ pub fn stack_over_vectors(random: &mut Random, record: &mut Record) {
     record.t |= 0x02;
 }
 
-/// A read-only part of this page 0, for a unit with this record.
+/// A read-only part of this page 0, for a unit with this record. Most of those that have no byte of
+/// the page are replaced by almost the whole page.
 pub fn read_only(random: &mut Random, record: &Record, page: &[u8]) -> ReadOnly {
+    let part = any_part(random, record, page);
+    if part.offsets(page.len()).is_empty() && random.chance(60) {
+        return ReadOnly::new(random.pick(&[0, 0, 1, 8]), far(random, page.len()));
+    }
+    part
+}
+
+fn any_part(random: &mut Random, record: &Record, page: &[u8]) -> ReadOnly {
     let length = page.len();
     let target = target(random, record, page);
     let few = |random: &mut Random| random.below(8) as u32;

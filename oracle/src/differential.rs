@@ -3,7 +3,7 @@
 //! The work is cut into sessions. A session has two pages of its own, the same on both sides, and
 //! starts the unit on them again and again; between two calls the record is sometimes changed, as a
 //! host may do. Each start has an idle figure, 0 for about half of them; with another one the unit
-//! waits where it is halted. In every fourth session each call of the port is lent a log, which is
+//! waits where it is halted. In three of eight starts each call of the port is lent a log, which is
 //! compared with the original's accesses and with the model's log. In half of the starts a part of
 //! page 0 is read-only. Every session depends on the seed and its own index only.
 
@@ -17,7 +17,9 @@ use std::time::{Duration, Instant};
 
 use bare::{Pc1500, Returned, Watch};
 
-use crate::call::{Access, Answer, BusLog, Call, Inputs, Log, ReadOnly, Record, MOST_ACCESSES};
+use crate::call::{
+    Access, Answer, BusLog, Call, Inputs, Log, ReadOnly, Record, GREATEST_LIMIT, MOST_ACCESSES,
+};
 use crate::compare::{self, ends_in_words, report_smallest, slices, Comparison, Logs};
 use crate::drops::Drops;
 use crate::opcodes::table;
@@ -36,14 +38,15 @@ const LEAST_WAITS: u64 = 100;
 const SESSION: u64 = 30_000;
 /// Of a hundred starts with an idle figure above 0, so many are parked.
 const PARKED: u64 = 40;
-/// A session's kind goes round in so many: the first has a log; it and the second have a read-only
-/// part in half of their starts, the third has one in every start, the last has neither. Calls with a
-/// log or a read-only part run through the original's own panics and the model too; the others run on
-/// the original without its log.
+/// A session's kind goes round in so many. Its starts have, by the kind: a log, and half of them a
+/// read-only part; half of them such a part, and no log; all of them such a part, and half a log;
+/// neither. Calls with a log or a read-only part run through the original's own panics and the model
+/// too; the others run on the original without its log.
 const KINDS: u64 = 4;
 /// Of a hundred steps that make an access at least so many have a log.
 const LEAST_LOGGED: u64 = 10;
-/// The greatest limit of a call with a log or a read-only part.
+/// The greatest limit of a call with a log or a read-only part. A call of a greater one has no log;
+/// where a part is read-only there is none but such as is refused.
 const LOGGED_LIMIT: u32 = 20_000;
 /// In a run of so many steps read-only parts have to have done all that they can do.
 const MANY: u64 = 1_000_000;
@@ -278,7 +281,7 @@ struct Session<'a> {
     /// Calls and steps of this session.
     calls: u64,
     steps: u64,
-    /// The log of the next call, in a session with logs.
+    /// The log of the next call, in a start with logs.
     bus_log: Option<BusLog>,
     /// The original with its panics, the model and the port, for calls with a log.
     comparison: Comparison,
@@ -307,7 +310,7 @@ impl Session<'_> {
             figure: index.wrapping_mul(97),
             calls: 0,
             steps: 0,
-            bus_log: (index / 2).is_multiple_of(KINDS).then(BusLog::default),
+            bus_log: None,
             comparison: Comparison::new(Box::new(Port)),
             wanted,
         }
@@ -358,19 +361,20 @@ impl Session<'_> {
         };
     }
 
-    /// In a session with logs, another list: short at times, mostly long enough for hundreds of
-    /// steps.
+    /// In a start with logs, another list: short at times, mostly long enough for hundreds of steps.
     fn new_log(&mut self) {
-        if self.bus_log.is_none() {
-            return;
-        }
+        let has_log = self.kind == 0 || self.kind == 2 && self.random.chance(50);
+        self.bus_log = has_log.then(|| self.any_log());
+    }
+
+    fn any_log(&mut self) -> BusLog {
         let used = self.random.below(20) as usize;
         let free = match self.random.below(20) {
             0 => self.random.below(40) as usize,
             _ => 1000 + self.random.below(3000) as usize,
         };
         let length = used + MOST_ACCESSES + free;
-        self.bus_log = Some(random::garbage(&mut self.random, length, used));
+        random::garbage(&mut self.random, length, used)
     }
 
     /// Between two calls: a full log is emptied, any other one handed on.
@@ -399,6 +403,10 @@ impl Session<'_> {
         let limit = match self.is_quiet() {
             true => 1 + self.random.below(40) as u32,
             false => limit(&mut self.random),
+        };
+        let limit = match self.read_only == ReadOnly::default() || limit > GREATEST_LIMIT {
+            true => limit,
+            false => limit.min(LOGGED_LIMIT),
         };
         if self.wanted == Some(self.calls) {
             return Err(Ended::Reached(Box::new(self.take_call(limit))));

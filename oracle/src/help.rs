@@ -74,7 +74,7 @@ pub const DIFFERENTIAL_HELP: &str = "\
 oracle differential [--steps N] [--seed S] [--threads T]
 
 Runs at least N steps of random programs on the original and on the port, and compares number,
-byte, steps, states, end record and both pages after every call. In a fourth of the sessions the port
+byte, steps, states, end record and both pages after every call. In three of eight starts the port
 is lent a log, which is handed on from call to call and emptied where it is full, and the log has to
 equal the original's accesses and the model's log. In half of the starts a part of page 0 is read-only.
 Calls with a log or such a part run on the original through its own panics, and on the model too. Idle

@@ -3,6 +3,7 @@
 #![forbid(unsafe_code)]
 
 use std::fmt;
+use std::ops::Range;
 
 /// Greatest length of a lent page.
 pub const GREATEST_PAGE: usize = 65_536;
@@ -139,6 +140,40 @@ impl BusLog {
     }
 }
 
+/// The read-only part of page 0 (document 02, F-4): from the first address up to, not including,
+/// the end. Either may be 65,536 or more; with the end at or below the first nothing is protected.
+#[derive(Clone, Copy, Debug, Default, PartialEq, Eq)]
+pub struct ReadOnly {
+    pub first: u32,
+    pub end: u32,
+}
+
+impl ReadOnly {
+    pub fn new(first: u32, end: u32) -> ReadOnly {
+        ReadOnly { first, end }
+    }
+
+    /// Whether a write to this address is dropped: the harness's own. Page 1, from 10000 on, is
+    /// never protected. The model has another writing of it.
+    #[inline]
+    pub fn has(&self, address: u32) -> bool {
+        self.first <= address && address < self.end && address < 0x1_0000
+    }
+
+    /// The offsets that are protected of a page 0 of this length.
+    pub fn offsets(&self, length: usize) -> Range<usize> {
+        let end = length.min(self.end as usize);
+        end.min(self.first as usize)..end
+    }
+}
+
+/// `0010 up to 0020`.
+impl fmt::Display for ReadOnly {
+    fn fmt(&self, f: &mut fmt::Formatter<'_>) -> fmt::Result {
+        write!(f, "{:04X} up to {:04X}", self.first, self.end)
+    }
+}
+
 /// What a call is given.
 #[derive(Clone, Debug, Default, PartialEq, Eq)]
 pub struct Call {
@@ -148,6 +183,7 @@ pub struct Call {
     pub pages: [Vec<u8>; 2],
     /// Absent where no log is lent.
     pub bus_log: Option<BusLog>,
+    pub read_only: ReadOnly,
 }
 
 /// The number of a call that is not accepted, 1 to 4, in document 01's order: the harness's own.
@@ -283,7 +319,7 @@ pub trait Side {
 
 #[cfg(test)]
 mod tests {
-    use super::{Access, BusLog};
+    use super::{Access, BusLog, ReadOnly};
 
     /// Document 02: "bit 25 is the write mark, bits 24 to 8 the address, bits 7 to 0 the byte, the
     /// rest zero".
@@ -309,5 +345,34 @@ mod tests {
         let full = |length, used| BusLog { entries: vec![0; length], used }.is_full();
         assert!(full(0, 0) && full(6, 0) && full(7, 1) && full(7, 8) && full(7, usize::MAX));
         assert!(!full(7, 0) && !full(8, 0) && !full(8, 1) && !full(100, 93));
+    }
+
+    /// Document 02: "from the first up to, not including, the end, writes to page 0 are dropped. With
+    /// the end at or below the first, nothing is protected." Page 1 never is.
+    #[test]
+    fn the_protected_addresses() {
+        let has = |first, end, address| ReadOnly::new(first, end).has(address);
+        assert!(has(4, 6, 4) && has(4, 6, 5) && !has(4, 6, 3) && !has(4, 6, 6));
+        for end in [0x1_0000, 0x1_0001, 70_000, 0x2_0000, u32::MAX] {
+            assert!(has(0xFFFF, end, 0xFFFF) && has(0, end, 0) && !has(0xFFFF, end, 0xFFFE));
+            assert!(!has(0, end, 0x1_0000) && !has(0x1_0000, end, 0x1_0000));
+            assert!(!has(0, end, 0x1_FFFF) && !has(0x1_0000, end, 0));
+        }
+        for (first, end) in [(0, 0), (5, 5), (6, 5), (u32::MAX, 0), (0x1_0000, 5)] {
+            assert!((0..0x2_0000).all(|address| !has(first, end, address)));
+        }
+    }
+
+    #[test]
+    fn the_protected_offsets() {
+        let edges = [0, 1, 2, 15, 16, 17, 0xFFFF, 0x1_0000, 0x1_0001, 0x2_0000, u32::MAX];
+        for (first, end) in edges.into_iter().flat_map(|first| edges.map(|end| (first, end))) {
+            let part = ReadOnly::new(first, end);
+            for length in [0, 1, 16, 0x1_0000] {
+                let counted = (0..length as u32).filter(|address| part.has(*address)).count();
+                assert_eq!(part.offsets(length).len(), counted, "{part} of {length}");
+                assert!(part.offsets(length).all(|offset| part.has(offset as u32)));
+            }
+        }
     }
 }

@@ -92,8 +92,8 @@ impl Reader<'_> {
     }
 }
 
-/// Reads a whole campaign file. It has no idle figure and no log: its call is given 0 and
-/// none.
+/// Reads a whole campaign file. It has no idle figure, no log and no read-only part: its call is
+/// given 0 and none.
 pub fn read(bytes: &[u8]) -> Result<Call, Defect> {
     let mut reader = Reader { bytes, place: 0 };
     let call = Call {
@@ -101,7 +101,7 @@ pub fn read(bytes: &[u8]) -> Result<Call, Defect> {
         inputs: Inputs::of_keyboard(reader.byte()?),
         limit: reader.number(u64::from(u32::MAX))? as u32,
         pages: [reader.page()?, reader.page()?],
-        bus_log: None,
+        ..Call::default()
     };
     if reader.place < bytes.len() {
         return Err(Defect { number: 10, offset: reader.place });

@@ -7,13 +7,16 @@ use std::fmt::{self, Write};
 use bare::Returned;
 
 use crate::call::{Access, Answer, BusLog, Call, Log, Record, Side};
+use crate::drops::Drops;
 use crate::halted;
 use crate::logs;
 use crate::model::Model;
 use crate::opcodes::table;
 use crate::original::Original;
 use crate::progress::Progress;
-use crate::random::{self, Random};
+use crate::protect;
+use crate::random::Random;
+use crate::read_only;
 use crate::shrink;
 use crate::traces::Traces;
 use crate::waits::Waits;
@@ -233,6 +236,7 @@ struct Counts {
     interrupts: u64,
     most_accesses: usize,
     waits: Waits,
+    drops: Drops,
 }
 
 impl Counts {
@@ -246,6 +250,7 @@ impl Counts {
             interrupts: 0,
             most_accesses: 0,
             waits: Waits::default(),
+            drops: Drops::default(),
         }
     }
 
@@ -254,6 +259,7 @@ impl Counts {
         self.waits.add(call.inputs.idle, answer.waits);
         self.stops[usize::from(answer.number)] += 1;
         self.logs.add(call, answer);
+        self.drops.add(call, answer);
         if let 5 | 6 = answer.number {
             self.unlisted[usize::from(answer.number - 5)][usize::from(answer.byte)] += 1;
         }
@@ -283,7 +289,7 @@ impl Counts {
         let (interrupts, most) = (self.interrupts, self.most_accesses);
         let _ =
             writeln!(text, "\ninterrupts accepted: {interrupts}; most accesses in a step: {most}");
-        let _ = writeln!(text, "{}\n{}", self.waits, self.logs);
+        let _ = writeln!(text, "{}\n{}\n{}", self.waits, self.logs, self.drops);
         for (page, name) in ["first page", "after FD"].into_iter().enumerate() {
             let reached = |counts: &[u64; 256]| counts.iter().filter(|count| **count > 0).count();
             let listed = table()[page].iter().flatten().count();
@@ -303,17 +309,22 @@ impl Counts {
     }
 }
 
-/// Runs the comparison; true where no difference was found.
+/// In a run of so many calls read-only parts have to have done all that they can do.
+const MANY: u64 = 5000;
+
+/// Runs the comparison; true where no difference was found, and read-only parts came as they have
+/// to.
 pub fn run(calls: u64, seed: u64, side: Box<dyn Side>) -> bool {
     println!("seed {seed}, original against {}", side.name());
     let mut comparison = Comparison::new(side);
-    if !run_halted(&mut comparison) || !run_logs(&mut comparison) {
+    let directed = [run_halted, run_logs, run_read_only];
+    if !directed.into_iter().all(|run| run(&mut comparison)) {
         return false;
     }
     let mut counts = Counts::new();
     let mut progress = Progress::new("call", calls);
     for index in 0..calls {
-        let call = random::logged_call(&mut Random::new(seed, index));
+        let call = protect::call(&mut Random::new(seed, index));
         let (original, _, difference) = comparison.both(&call);
         if difference.is_some() {
             progress.wipe();
@@ -327,7 +338,11 @@ pub fn run(calls: u64, seed: u64, side: Box<dyn Side>) -> bool {
     progress.wipe();
     print!("{}", counts.report());
     println!("{calls} calls, {} steps, 0 differences", counts.steps);
-    true
+    let reached = calls < MANY || counts.drops.have_all();
+    if !reached {
+        println!("the read-only parts did not do all that they have to");
+    }
+    reached
 }
 
 /// Compares a directed call; at a difference prints the smallest one and tells nothing.
@@ -372,6 +387,24 @@ fn run_logs(comparison: &mut Comparison) -> bool {
     let reached = counts.has_every_end() && traces.are_enough();
     if !reached {
         println!("the directed calls with a log do not reach all that they have to");
+    }
+    reached
+}
+
+/// Runs the directed calls with a read-only part; true where no difference was found, and where the
+/// parts did all that they have to.
+fn run_read_only(comparison: &mut Comparison) -> bool {
+    let mut drops = Drops::default();
+    for (what, calls) in read_only::groups() {
+        for call in calls {
+            let Some(original) = directed(comparison, call.clone(), what) else { return false };
+            drops.add(&call, &original);
+        }
+    }
+    println!("directed: {drops}");
+    let reached = drops.have_all();
+    if !reached {
+        println!("the directed calls with a read-only part do not reach all that they have to");
     }
     reached
 }

@@ -3,9 +3,9 @@
 //! The work is cut into sessions. A session has two pages of its own, the same on both sides, and
 //! starts the unit on them again and again; between two calls the record is sometimes changed, as a
 //! host may do. Each start has an idle figure, 0 for about half of them; with another one the unit
-//! waits where it is halted. In every fourth session each call of the port is lent a log, which is
-//! compared with the original's accesses and with the model's log. Every session depends on the
-//! seed and its own index only.
+//! waits where it is halted. In three of eight starts each call of the port is lent a log, which is
+//! compared with the original's accesses and with the model's log. In half of the starts a part of
+//! page 0 is read-only. Every session depends on the seed and its own index only.
 
 #![forbid(unsafe_code)]
 
@@ -17,11 +17,15 @@ use std::time::{Duration, Instant};
 
 use bare::{Pc1500, Returned, Watch};
 
-use crate::call::{Answer, BusLog, Call, Inputs, Record, MOST_ACCESSES};
+use crate::call::{
+    Access, Answer, BusLog, Call, Inputs, Log, ReadOnly, Record, GREATEST_LIMIT, MOST_ACCESSES,
+};
 use crate::compare::{self, ends_in_words, report_smallest, slices, Comparison, Logs};
+use crate::drops::Drops;
 use crate::opcodes::table;
 use crate::port::{self, Port};
 use crate::progress::Progress;
+use crate::protect;
 use crate::random::{self, Random};
 use crate::shrink;
 use crate::waits::Waits;
@@ -34,12 +38,18 @@ const LEAST_WAITS: u64 = 100;
 const SESSION: u64 = 30_000;
 /// Of a hundred starts with an idle figure above 0, so many are parked.
 const PARKED: u64 = 40;
-/// One of so many sessions has a log, and runs through the original's own panics and the model too.
-const LOGGED: u64 = 4;
+/// A session's kind goes round in so many. Its starts have, by the kind: a log, and half of them a
+/// read-only part; half of them such a part, and no log; all of them such a part, and half a log;
+/// neither. Calls with a log or a read-only part run through the original's own panics and the model
+/// too; the others run on the original without its log.
+const KINDS: u64 = 4;
 /// Of a hundred steps that make an access at least so many have a log.
 const LEAST_LOGGED: u64 = 10;
-/// The greatest limit of a call with a log.
+/// The greatest limit of a call with a log or a read-only part. A call of a greater one has no log;
+/// where a part is read-only there is none but such as is refused.
 const LOGGED_LIMIT: u32 = 20_000;
+/// In a run of so many steps read-only parts have to have done all that they can do.
+const MANY: u64 = 1_000_000;
 
 pub struct Settings {
     pub steps: u64,
@@ -59,6 +69,7 @@ struct Counts {
     off: u64,
     held: u64,
     waits: Waits,
+    drops: Drops,
     interrupts: u64,
     /// Interrupts that a halted unit accepts.
     wakes: u64,
@@ -82,6 +93,7 @@ impl Counts {
             off: 0,
             held: 0,
             waits: Waits::default(),
+            drops: Drops::default(),
             interrupts: 0,
             wakes: 0,
             code_edges: 0,
@@ -106,6 +118,42 @@ impl Counts {
         self.sizes[[0, 1, 20, 1000].iter().filter(|most| returned.steps > **most).count()] += 1;
     }
 
+    /// What `Watch` counts, of the steps of a call that the original with its panics has made.
+    fn watch(&mut self, call: &Call, answer: &Answer) {
+        let Some(log) = &answer.log else { return };
+        self.waits.add(call.inputs.idle, answer.waits);
+        let quiet = self.watch_accesses(call.record.is_halted, log, answer.steps as usize);
+        // Nothing inside the unit ends BF clear or IR0 set, so these are a call's last steps.
+        match answer.record.bf {
+            true => self.held += quiet - answer.waits,
+            false => self.off += quiet - answer.waits,
+        }
+    }
+
+    /// Counts entries and executed bytes; tells how many steps had no access.
+    fn watch_accesses(&mut self, halted: bool, log: &Log, steps: usize) -> u64 {
+        let (mut halted, mut quiet) = (halted, 0);
+        for step in (0..steps).map(|index| log.step(index)) {
+            match step.first().map(Access::is_write) {
+                None => quiet += 1,
+                Some(true) => self.interrupt(mem::take(&mut halted)),
+                Some(false) => halted |= self.watch_instruction(step),
+            }
+        }
+        quiet
+    }
+
+    /// Counts an instruction; true where it is HLT.
+    fn watch_instruction(&mut self, step: &[Access]) -> bool {
+        let first = step[0].byte();
+        self.executed(0, first);
+        if first != 0xFD {
+            return false;
+        }
+        self.executed(1, step[1].byte());
+        step[1].byte() == 0xB1
+    }
+
     /// Steps that are neither with BF clear, nor with IR0 set, nor waiting: an instruction or an
     /// interrupt.
     fn busy(&self) -> u64 {
@@ -122,6 +170,7 @@ impl Counts {
         self.off += other.off;
         self.held += other.held;
         self.waits.join(&other.waits);
+        self.drops.join(&other.drops);
         self.interrupts += other.interrupts;
         self.wakes += other.wakes;
         self.code_edges += other.code_edges;
@@ -153,6 +202,7 @@ impl Counts {
         println!(
             "  compared with the original's accesses, in runs through its panics, and the model"
         );
+        println!("{}", self.drops);
         println!(
             "steps with an interrupt {} (of a halted unit {}), with BF clear {}, with IR0 set {}",
             self.interrupts, self.wakes, self.off, self.held
@@ -223,12 +273,15 @@ struct Session<'a> {
     lengths: [usize; 2],
     record: Record,
     inputs: Inputs,
+    read_only: ReadOnly,
+    /// The session's kind: below `KINDS`.
+    kind: u64,
     /// The idle figure that came last of those that come in turn.
     figure: u64,
     /// Calls and steps of this session.
     calls: u64,
     steps: u64,
-    /// The log of the next call, in a session with logs.
+    /// The log of the next call, in a start with logs.
     bus_log: Option<BusLog>,
     /// The original with its panics, the model and the port, for calls with a log.
     comparison: Comparison,
@@ -250,12 +303,14 @@ impl Session<'_> {
             lengths,
             record: Record::default(),
             inputs,
+            read_only: ReadOnly::default(),
+            // Two sessions in turn, so that two threads have as many of a kind.
+            kind: index / 2 % KINDS,
             // Sessions begin at different figures.
             figure: index.wrapping_mul(97),
             calls: 0,
             steps: 0,
-            // Two sessions in turn, so that two threads have as many.
-            bus_log: (index / 2).is_multiple_of(LOGGED).then(BusLog::default),
+            bus_log: None,
             comparison: Comparison::new(Box::new(Port)),
             wanted,
         }
@@ -294,21 +349,32 @@ impl Session<'_> {
             random::place(&mut self.pages[0], p, &code);
             random::place(&mut self.machine.page0, p, &code);
         }
+        self.new_read_only();
     }
 
-    /// In a session with logs, another list: short at times, mostly long enough for hundreds of
-    /// steps.
+    /// Another read-only part, or none.
+    fn new_read_only(&mut self) {
+        self.read_only = match self.kind {
+            0 | 1 if self.random.chance(50) => ReadOnly::default(),
+            0..=2 => protect::read_only(&mut self.random, &self.record, &self.pages[0]),
+            _ => ReadOnly::default(),
+        };
+    }
+
+    /// In a start with logs, another list: short at times, mostly long enough for hundreds of steps.
     fn new_log(&mut self) {
-        if self.bus_log.is_none() {
-            return;
-        }
+        let has_log = self.kind == 0 || self.kind == 2 && self.random.chance(50);
+        self.bus_log = has_log.then(|| self.any_log());
+    }
+
+    fn any_log(&mut self) -> BusLog {
         let used = self.random.below(20) as usize;
         let free = match self.random.below(20) {
             0 => self.random.below(40) as usize,
             _ => 1000 + self.random.below(3000) as usize,
         };
         let length = used + MOST_ACCESSES + free;
-        self.bus_log = Some(random::garbage(&mut self.random, length, used));
+        random::garbage(&mut self.random, length, used)
     }
 
     /// Between two calls: a full log is emptied, any other one handed on.
@@ -338,6 +404,10 @@ impl Session<'_> {
             true => 1 + self.random.below(40) as u32,
             false => limit(&mut self.random),
         };
+        let limit = match self.read_only == ReadOnly::default() || limit > GREATEST_LIMIT {
+            true => limit,
+            false => limit.min(LOGGED_LIMIT),
+        };
         if self.wanted == Some(self.calls) {
             return Err(Ended::Reached(Box::new(self.take_call(limit))));
         }
@@ -348,20 +418,31 @@ impl Session<'_> {
         Ok(returned.number == 0 || returned.number == 11)
     }
 
-    /// The call that comes next, with the port's pages and, where the session has one, its log.
+    /// A call of this limit has a log or a read-only part.
+    fn is_whole(&self, limit: u32) -> bool {
+        let has_more = self.bus_log.is_some() || self.read_only != ReadOnly::default();
+        has_more && limit <= LOGGED_LIMIT
+    }
+
+    /// The call that comes next, with the port's pages and, where the session has one, its log, and
+    /// its read-only part.
     fn take_call(&mut self, limit: u32) -> Call {
-        let bus_log = self.bus_log.clone().filter(|_| limit <= LOGGED_LIMIT);
-        let pages = mem::take(&mut self.pages);
-        Call { record: self.record, inputs: self.inputs, limit, pages, bus_log }
+        let (record, inputs) = (self.record, self.inputs);
+        let (bus_log, read_only) = match self.is_whole(limit) {
+            true => (self.bus_log.clone(), self.read_only),
+            false => (None, ReadOnly::default()),
+        };
+        Call { record, inputs, limit, pages: mem::take(&mut self.pages), bus_log, read_only }
     }
 
     /// Runs a call on both sides; tells the first difference.
     fn compare(&mut self, limit: u32) -> Result<Returned, String> {
-        if self.bus_log.is_some() && limit <= LOGGED_LIMIT {
-            return self.compare_logged(limit);
+        if self.is_whole(limit) {
+            return self.compare_whole(limit);
         }
         let returned = self.run_bare(limit);
-        let port = port::call(&self.record, self.inputs, limit, &mut self.pages, None);
+        let (inputs, pages) = (self.inputs, &mut self.pages);
+        let port = port::call(&self.record, inputs, limit, pages, None, ReadOnly::default());
         self.compare_bare(&returned, &port)?;
         self.counts.call(&self.record, &returned, self.lengths);
         Ok(returned)
@@ -383,28 +464,45 @@ impl Session<'_> {
             .map_or(Ok(()), Err)
     }
 
-    /// Runs a call with a log on the original with its panics, the model and the port, and then as
-    /// many steps on the original without its log.
-    fn compare_logged(&mut self, limit: u32) -> Result<Returned, String> {
+    /// Runs a call with a log or a read-only part on the original with its panics, the model and the
+    /// port, and then, where nothing is read-only, as many steps on the original without its log.
+    fn compare_whole(&mut self, limit: u32) -> Result<Returned, String> {
         let call = self.take_call(limit);
         let (original, mut port, difference) = self.comparison.both(&call);
         if let Some(how) = difference {
             return Err(how);
         }
+        self.pages = mem::take(&mut port.pages);
+        match call.read_only == ReadOnly::default() {
+            true => self.follow_bare(limit, &port)?,
+            false => self.follow_read_only(&call, &original),
+        }
         let Answer { number, byte, steps, states, .. } = original;
         let returned = Returned { number, byte, steps, states };
-        let bare = match (number, steps) {
-            (11, 0) => self.returned_at_once(),
-            (11, _) => Returned { number, ..self.run_bare(steps as u32) },
-            _ => self.run_bare(limit),
-        };
-        self.pages = mem::take(&mut port.pages);
-        self.compare_bare(&bare, &port)
-            .map_err(|how| format!("the original without and with its panics: {how}"))?;
         self.counts.call(&self.record, &returned, self.lengths);
         self.counts.logs.add(&call, &original);
         self.bus_log = port.bus_log;
         Ok(returned)
+    }
+
+    /// The original without its log makes the steps of a call that the port has answered so.
+    fn follow_bare(&mut self, limit: u32, port: &Answer) -> Result<(), String> {
+        let bare = match (port.number, port.steps) {
+            (11, 0) => self.returned_at_once(),
+            (11, steps) => Returned { number: 11, ..self.run_bare(steps as u32) },
+            _ => self.run_bare(limit),
+        };
+        self.compare_bare(&bare, port)
+            .map_err(|how| format!("the original without and with its panics: {how}"))
+    }
+
+    /// The original without its log knows no read-only part: it is given what came out.
+    fn follow_read_only(&mut self, call: &Call, original: &Answer) {
+        self.machine.begin(&original.record, self.inputs);
+        self.machine.page0.clone_from(&original.pages[0]);
+        self.machine.page1.clone_from(&original.pages[1]);
+        self.counts.watch(call, original);
+        self.counts.drops.add(call, original);
     }
 
     /// A call of the original without its log that ends before its first step: 11 is not its own.
@@ -436,6 +534,9 @@ impl Session<'_> {
         }
         if self.random.chance(25) {
             random::change(&mut self.random, &mut self.record, self.lengths);
+        }
+        if self.random.chance(5) {
+            self.new_read_only();
         }
     }
 }
@@ -571,7 +672,11 @@ fn came_often_enough(counts: &Counts, steps: u64) -> bool {
     if logged < least_logged {
         println!("{logged} steps with an access had a log only, less than {least_logged}");
     }
-    rarest >= least && waits >= least_waits && logged >= least_logged
+    let protected = steps < MANY || counts.drops.have_all();
+    if !protected {
+        println!("the read-only parts did not do all that they have to");
+    }
+    rarest >= least && waits >= least_waits && logged >= least_logged && protected
 }
 
 /// Prints the smallest input for a difference, from the session made once more up to that call.

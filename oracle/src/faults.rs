@@ -135,7 +135,7 @@ impl Wrong {
     /// One step; false where the call ends with it.
     fn step(&self, call: &Call, sum: &mut Answer, log: &mut BusLog) -> bool {
         let (record, pages) = (sum.record, sum.pages.clone());
-        let next = Call { record, inputs: call.inputs, limit: 1, pages, bus_log: None };
+        let next = Call { record, inputs: call.inputs, limit: 1, pages, ..Call::default() };
         let one = Model::default().call(&next);
         if self.stops(log, &record, &one) {
             sum.number = 11;

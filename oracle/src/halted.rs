@@ -30,7 +30,7 @@ fn call(idle: u8, timer_state: u64, state: u16, t: u8) -> Call {
     let mut record = Record { t, s: 2, tm: 0x1FE, timer_state, ticks: 7, ..Record::default() };
     record.set_flags(set.sum());
     let pages = [vec![0x38; 4], vec![]];
-    Call { record, inputs: Inputs { keyboard: 0, idle }, limit: 3, pages, bus_log: None }
+    Call { record, inputs: Inputs { keyboard: 0, idle }, limit: 3, pages, ..Call::default() }
 }
 
 #[cfg(test)]
@@ -212,7 +212,7 @@ mod tests {
         let record = Record { bf: true, ..Record::default() };
         let pages = [vec![0xFD, 0xB1], vec![]];
         let inputs = Inputs { keyboard: 0, idle: 5 };
-        let call = Call { record, inputs, limit: 4, pages, bus_log: None };
+        let call = Call { record, inputs, limit: 4, pages, ..Call::default() };
         for mut side in sides() {
             let answer = side.call(&call);
             assert_eq!((answer.number, answer.steps, answer.states), (0, 4, 9 + 3 * 5));

@@ -3,7 +3,7 @@
 
 #![forbid(unsafe_code)]
 
-use crate::call::{Answer, BusLog, Call};
+use crate::call::{Answer, BusLog, Call, ReadOnly};
 use crate::list::Sparse;
 
 /// How many entries the list has that a call is lent.
@@ -24,6 +24,7 @@ pub struct Item {
     pub set: Vec<u8>,
     /// The log's used count, or `NO_LOG`.
     pub used: u16,
+    pub read_only: ReadOnly,
     /// Over what the call leaves.
     pub sums: [u64; 2],
 }
@@ -73,6 +74,7 @@ impl<'a> Rest<'a> {
             lengths,
             fill,
             used: self.number(2)? as u16,
+            read_only: ReadOnly::new(self.number(4)? as u32, self.number(4)? as u32),
             file: self.take(file)?.to_vec(),
             line: self.take(line)?.to_vec(),
             set: self.take(set)?.to_vec(),
@@ -102,6 +104,8 @@ impl Item {
         bytes.extend([self.fill.0, self.fill.1]);
         put(&mut bytes, self.set.len() / 4, 1)?;
         bytes.extend(self.used.to_le_bytes());
+        bytes.extend(self.read_only.first.to_le_bytes());
+        bytes.extend(self.read_only.end.to_le_bytes());
         for part in [&self.file, &self.line, &self.set] {
             bytes.extend(part);
         }
@@ -110,7 +114,7 @@ impl Item {
     }
 
     /// The file's call on the item's pages, which are the fill rule, then the file's bytes at their
-    /// starts, then the bytes that are set; and with its log.
+    /// starts, then the bytes that are set; and with its log and read-only part.
     pub fn call(&self, file: Call) -> Result<Call, String> {
         let [page0, page1] = file.pages;
         let mut set = vec![(0, page0), (0x1_0000, page1)];
@@ -121,14 +125,14 @@ impl Item {
         let Call { record, inputs, limit, .. } = file;
         let (keyboard, lengths, fill) = (inputs.keyboard, self.lengths, self.fill);
         let call = Sparse { record, keyboard, limit, lengths, fill, set }.call()?;
-        Ok(Call { bus_log: bus_log(self.used), ..call })
+        Ok(Call { bus_log: bus_log(self.used), read_only: self.read_only, ..call })
     }
 }
 
 #[cfg(test)]
 mod tests {
     use super::{bus_log, sums, Item, Rest, NO_LOG};
-    use crate::call::{Answer, BusLog};
+    use crate::call::{Answer, BusLog, ReadOnly};
 
     fn item() -> Item {
         Item {
@@ -138,6 +142,7 @@ mod tests {
             fill: (4, 5),
             set: vec![0, 1, 0, 6, 7, 0, 1, 8],
             used: 0x1234,
+            read_only: ReadOnly::new(0x0506_0708, u32::MAX - 1),
             sums: [9, u64::MAX],
         }
     }
@@ -145,8 +150,8 @@ mod tests {
     #[test]
     fn an_item_reads_back() {
         let bytes = item().bytes().unwrap();
-        assert_eq!(bytes.len(), 16 + 3 + 4 + 8 + 16);
-        assert_eq!(bytes[14..16], [0x34, 0x12]);
+        assert_eq!(bytes.len(), 24 + 3 + 4 + 8 + 16);
+        assert_eq!(bytes[14..24], [0x34, 0x12, 8, 7, 6, 5, 0xFE, 0xFF, 0xFF, 0xFF]);
         let mut rest = Rest(&bytes);
         assert_eq!(rest.item(), Ok(item()));
         assert!(rest.0.is_empty());

@@ -6,22 +6,41 @@
 use std::fs;
 use std::path::Path;
 
-use crate::call::{Answer, Call, Record};
+use crate::call::{Answer, Call, ReadOnly, Record};
 use crate::campaign::{self, number, GREATEST, WORKED};
 use crate::compare::ordered_original;
 use crate::directed::{self, code, flagged, ON};
+use crate::drops::Drops;
 use crate::item::{bus_log, sums, Item, NO_LOG};
 use crate::list::{self, Sparse};
 use crate::progress::Progress;
 use crate::random::Random;
+use crate::read_only;
 
 /// The program reads so many bytes of a file.
 const GREATEST_FILE: usize = 65_536;
 /// How many files with random bytes changed are turned down.
 const CHANGED: usize = 56;
 
-/// A call, and its log's used count or `NO_LOG`.
-type Given = (Sparse, u16);
+/// A call, its log's used count or `NO_LOG`, and its read-only part.
+#[derive(Clone)]
+struct Given {
+    sparse: Sparse,
+    used: u16,
+    read_only: ReadOnly,
+}
+
+impl Given {
+    /// A call of which nothing is read-only.
+    fn new((sparse, used): (Sparse, u16)) -> Given {
+        Given { sparse, used, read_only: ReadOnly::default() }
+    }
+
+    fn call(&self) -> Result<Call, String> {
+        let call = self.sparse.call()?;
+        Ok(Call { bus_log: bus_log(self.used), read_only: self.read_only, ..call })
+    }
+}
 
 /// Used counts up to the end of the list of 64 and beyond it: 57 leaves seven entries, 58 six.
 const USED: [u16; 11] = [0, 1, 50, 55, 56, 57, 58, 63, 64, 65, 1000];
@@ -47,7 +66,7 @@ fn listed(calls: u64, seed: u64) -> Vec<Given> {
         let used = random_used(&mut Random::new(!seed, index), index);
         (list::random_sparse(&mut Random::new(seed, index)), used)
     });
-    directed.map(|sparse| (sparse, NO_LOG)).chain(random).collect()
+    directed.map(|sparse| (sparse, NO_LOG)).chain(random).map(Given::new).collect()
 }
 
 /// Short runs of every kind, for logs of every used count. Steps of one access; of seven; of two and
@@ -86,7 +105,16 @@ fn logged() -> Vec<Given> {
     let opcodes = directed::listed().into_iter().zip((0..58).step_by(7).cycle());
     let again = directed::cases().into_iter().flat_map(|(_, cases)| cases);
     let again = again.filter(|sparse| sparse.limit < 1_000_000).zip(ROOMY.into_iter().cycle());
-    courses().into_iter().flat_map(every_used).chain(opcodes).chain(again).collect()
+    let all = courses().into_iter().flat_map(every_used).chain(opcodes).chain(again);
+    all.map(Given::new).collect()
+}
+
+/// Directed calls with a read-only part, every other one with a log: mostly with room for all steps,
+/// now and then for a few.
+fn protected() -> Vec<Given> {
+    let used = [NO_LOG, 0, NO_LOG, 3, NO_LOG, 50].into_iter().cycle();
+    let calls = read_only::short().into_iter().zip(used);
+    calls.map(|((sparse, read_only), used)| Given { sparse, used, read_only }).collect()
 }
 
 /// Document 01's input with another form of the number at this place.
@@ -135,7 +163,8 @@ fn refused(seed: u64) -> Vec<Vec<u8>> {
 fn refused_item(file: Vec<u8>) -> Result<Item, String> {
     let defect = campaign::read(&file).err().ok_or("a file is not turned down")?;
     let line = format!("{}\n", defect.line()).into_bytes();
-    Ok(Item { file, line, lengths: [0; 2], fill: (0, 0), set: vec![], used: NO_LOG, sums: [0; 2] })
+    let (lengths, fill, set, sums) = ([0; 2], (0, 0), vec![], [0; 2]);
+    Ok(Item { file, line, lengths, fill, set, used: NO_LOG, read_only: ReadOnly::default(), sums })
 }
 
 /// For each byte that is set: its offset in two bytes, its page, its value.
@@ -150,16 +179,18 @@ fn groups_of_four(sparse: &Sparse) -> Vec<u8> {
 
 /// A call's item, with this answer. Its file holds the pages where that is not the longer form, else
 /// empty ones.
-fn call_item((sparse, used): &Given, call: &Call, answer: &Answer) -> Item {
+fn call_item(given: &Given, call: &Call, answer: &Answer) -> Item {
+    let Given { sparse, used, read_only } = given;
     let set = groups_of_four(sparse);
     let whole = sparse.lengths.iter().sum::<usize>() <= set.len();
-    let empty = || Call { pages: [vec![], vec![]], bus_log: None, ..call.clone() };
+    let empty = || Call { pages: [vec![], vec![]], ..call.clone() };
     let (file, fill, set) = match whole {
         true => (campaign::write(call), (0, 0), vec![]),
         false => (campaign::write(&empty()), sparse.fill, set),
     };
     let line = format!("{}\n", answer.line()).into_bytes();
-    Item { file, line, lengths: sparse.lengths, fill, set, used: *used, sums: sums(answer) }
+    let (lengths, used, read_only, sums) = (sparse.lengths, *used, *read_only, sums(answer));
+    Item { file, line, lengths, fill, set, used, read_only, sums }
 }
 
 /// What a list has in it.
@@ -173,9 +204,23 @@ pub struct Counts {
     pub numbers: [[u64; 2]; 12],
     /// Calls that end with 11 after completed steps.
     pub full_later: u64,
+    /// Calls with a read-only part, and what it did; those of them with a log.
+    pub drops: Drops,
+    pub protected: u64,
+    pub protected_logged: u64,
 }
 
 impl Counts {
+    /// A call; its read-only part besides.
+    fn add_call(&mut self, given: &Given, call: &Call, answer: &Answer) {
+        self.add(given.used, answer);
+        self.drops.add(call, answer);
+        if call.read_only != ReadOnly::default() {
+            self.protected += 1;
+            self.protected_logged += u64::from(call.bus_log.is_some());
+        }
+    }
+
     fn add(&mut self, used: u16, answer: &Answer) {
         let after = answer.bus_log.as_ref().map(|log| log.used);
         let is_logged = u64::from(after.is_some());
@@ -188,12 +233,13 @@ impl Counts {
     }
 
     pub fn print(&self, files: usize) {
-        let Counts { items, logged, entries, numbers, full_later } = self;
+        let Counts { items, logged, entries, numbers, full_later, .. } = self;
         println!("{items} items in {files} files; {logged} with a log, {entries} entries appended");
         let all: Vec<_> = (0..).zip(numbers).map(|(i, [all, _])| format!("{i}: {all}")).collect();
         let log: Vec<_> = (0..).zip(numbers).map(|(i, [_, log])| format!("{i}: {log}")).collect();
         println!("numbers: {}", all.join(" "));
         println!("with a log: {}; 11 after completed steps: {full_later}", log.join(" "));
+        println!("{}; {} of these calls have a log", self.drops, self.protected_logged);
     }
 }
 
@@ -201,16 +247,15 @@ impl Counts {
 fn items(calls: u64, seed: u64) -> Result<(Vec<Item>, Counts), String> {
     let mut counts = Counts::default();
     let mut items = vec![];
-    let given = [listed(calls, seed), logged()].concat();
+    let given = [listed(calls, seed), logged(), protected()].concat();
     let mut progress = Progress::new("call", given.len() as u64);
     for (index, given) in given.iter().enumerate() {
-        let (sparse, used) = given;
-        let call = Call { bus_log: bus_log(*used), ..sparse.call()? };
+        let call = given.call()?;
         let answer = ordered_original(&call);
         if let Some(message) = answer.failure {
             return Err(format!("the original failed: {message}"));
         }
-        counts.add(*used, &answer);
+        counts.add_call(given, &call, &answer);
         items.push(call_item(given, &call, &answer));
         progress.show(index as u64);
     }
@@ -279,6 +324,8 @@ mod tests {
         assert!(counts.numbers.iter().all(|[all, _]| *all > 0));
         assert!(counts.numbers[..8].iter().all(|[_, logged]| *logged > 0));
         assert!(counts.full_later > 100 && counts.logged * 4 > counts.items);
+        assert!((100..=160).contains(&counts.protected) && counts.drops.have_all());
+        assert!((50..=80).contains(&counts.protected_logged));
     }
 
     /// The line of a file that is turned down, as the oracle's own reader has it.

@@ -12,7 +12,7 @@ use crate::progress::Progress;
 use crate::random::{self, Random};
 
 /// A call with sparse memory: lengths, a rule for every byte, and the bytes set after it. Its idle
-/// figure is 0, and it has no log.
+/// figure is 0, and it has no log and no read-only part.
 #[derive(Clone, Debug, Default, PartialEq, Eq)]
 pub struct Sparse {
     pub record: Record,
@@ -48,7 +48,7 @@ impl Sparse {
             place.copy_from_slice(bytes);
         }
         let inputs = Inputs::of_keyboard(self.keyboard);
-        Ok(Call { record: self.record, inputs, limit: self.limit, pages, bus_log: None })
+        Ok(Call { record: self.record, inputs, limit: self.limit, pages, ..Call::default() })
     }
 }
 

@@ -24,25 +24,25 @@ pub fn groups() -> Vec<(&'static str, Calls)> {
 }
 
 /// A log of this length with so many used, full of numbers that mean nothing.
-fn garbage(length: usize, used: usize) -> BusLog {
+pub fn garbage(length: usize, used: usize) -> BusLog {
     let mut random = Random::new(0xF2, (length ^ used) as u64);
     let entries = (0..length).map(|_| random.next() as u32).collect();
     BusLog { entries, used }
 }
 
 /// Pages of these lengths; the byte at an offset is its low byte with these bits turned.
-fn filled(lengths: [usize; 2], turned: u8) -> [Vec<u8>; 2] {
+pub fn filled(lengths: [usize; 2], turned: u8) -> [Vec<u8>; 2] {
     lengths.map(|length| (0..length).map(|i| i as u8 ^ turned).collect())
 }
 
 /// BF set, nothing else.
-fn on() -> Record {
+pub fn on() -> Record {
     Record { bf: true, ..Record::default() }
 }
 
 /// Where an instruction and what it touches lie.
 #[derive(Clone, Copy)]
-struct Place {
+pub struct Place {
     lengths: [usize; 2],
     /// Page 0 ends behind the opcode: every operand is read past the end.
     cut: bool,
@@ -56,7 +56,7 @@ const INSIDE: Place =
 
 /// Inside both pages; past both ends; page 1 empty; operands past page 0's end; the last byte of
 /// both pages, the stack over it and just behind it; everything at the end of whole pages.
-const PLACES: [Place; 7] = [
+pub const PLACES: [Place; 7] = [
     INSIDE,
     Place { lengths: [128, 128], ..INSIDE },
     Place { lengths: [1024, 0], ..INSIDE },
@@ -67,7 +67,7 @@ const PLACES: [Place; 7] = [
 ];
 
 /// The opcodes of both pages, FD apart, in the bytes that are executed.
-fn listed() -> impl Iterator<Item = Vec<u8>> {
+pub fn listed() -> impl Iterator<Item = Vec<u8>> {
     (0..2).flat_map(|page| (0..=255_u8).map(move |byte| (page, byte))).filter_map(|(page, byte)| {
         let entry = table()[page][usize::from(byte)]?;
         let code = if page == 1 { vec![0xFD, byte] } else { vec![byte] };
@@ -94,7 +94,7 @@ fn opcodes() -> impl Iterator<Item = Call> {
 
 /// One instruction at its place. Its operand, where it has one, is the place's data address, and a
 /// byte behind it.
-fn instruction(opcode: &[u8], place: Place, t: u8) -> Call {
+pub fn instruction(opcode: &[u8], place: Place, t: u8) -> Call {
     let [high, low] = place.data.to_be_bytes();
     let operand = if place.cut { vec![] } else { vec![high, low, 0x5A] };
     let code = [opcode, &operand].concat();
@@ -106,7 +106,7 @@ fn instruction(opcode: &[u8], place: Place, t: u8) -> Call {
     let (x, y, u, s, p) = (place.data, place.data, place.data, place.stack, place.code);
     let record = Record { a: 0xC3, t, x, y, u, s, p, ..on() };
     let inputs = Inputs::of_keyboard(0x6B);
-    Call { record, inputs, limit: 1, pages, bus_log: None }
+    Call { record, inputs, limit: 1, pages, ..Call::default() }
 }
 
 /// LOP with UL at its edges: taken and not taken.
@@ -131,7 +131,7 @@ fn entries() -> impl Iterator<Item = Call> {
                 record.set_flags(flags);
                 let pages = filled(lengths, 0x5A);
                 let bus_log = Some(garbage(13, 1));
-                Call { record, inputs: Inputs::default(), limit: 2, pages, bus_log }
+                Call { record, limit: 2, pages, bus_log, ..Call::default() }
             })
         })
     })
@@ -160,7 +160,7 @@ fn vector(code: &[u8], s: u16, length1: usize) -> Call {
     random::place(&mut pages[0], 0x0100, code);
     let record = Record { s, p: 0x0100, ..on() };
     let bus_log = Some(garbage(9, 2));
-    Call { record, inputs: Inputs::default(), limit: 1, pages, bus_log }
+    Call { record, limit: 1, pages, bus_log, ..Call::default() }
 }
 
 /// A unit and its code for `lists`.
@@ -202,7 +202,14 @@ fn lists() -> impl Iterator<Item = Call> {
             page.resize(0x20, 0x38);
             let inputs = Inputs { keyboard: 0, idle };
             let bus_log = Some(garbage(length, used));
-            Call { record, inputs, limit: 5, pages: [page, vec![0x77; 0x20]], bus_log }
+            Call {
+                record,
+                inputs,
+                limit: 5,
+                pages: [page, vec![0x77; 0x20]],
+                bus_log,
+                ..Call::default()
+            }
         })
     })
 }
@@ -218,7 +225,7 @@ fn ends() -> impl Iterator<Item = Call> {
                     let bus_log = Some(garbage(used + free, used));
                     let (record, limit) = (on(), before as u32 + 2);
                     let pages = [page, vec![]];
-                    Call { record, inputs: Inputs::default(), limit, pages, bus_log }
+                    Call { record, limit, pages, bus_log, ..Call::default() }
                 })
             })
         })
@@ -231,7 +238,7 @@ fn refusals() -> impl Iterator<Item = Call> {
     logs.into_iter().flat_map(|(length, used)| {
         let pages = [vec![0x38; 4], vec![]];
         let bus_log = Some(garbage(length, used));
-        let plain = Call { record: on(), inputs: Inputs::default(), limit: 1, pages, bus_log };
+        let plain = Call { record: on(), limit: 1, pages, bus_log, ..Call::default() };
         let mut calls = [0; 5].map(|_| plain.clone());
         calls[0].pages[0].resize(65_537, 0x38);
         calls[1].pages[1].resize(65_537, 0x38);
@@ -245,7 +252,7 @@ fn refusals() -> impl Iterator<Item = Call> {
 #[cfg(test)]
 mod tests {
     use super::{groups, Calls};
-    use crate::call::{Access, BusLog, Call, Inputs, Record, Side};
+    use crate::call::{Access, BusLog, Call, Record, Side};
     use crate::compare::{difference, ordered_original, Logs};
     use crate::model::Model;
     #[cfg(feature = "port")]
@@ -304,7 +311,7 @@ mod tests {
     fn call(record: Record, code: &[u8], limit: u32, length: usize, used: usize) -> Call {
         let bus_log = Some(BusLog { entries: vec![KEPT; length], used });
         let pages = [code.to_vec(), vec![]];
-        Call { record, inputs: Inputs::default(), limit, pages, bus_log }
+        Call { record, limit, pages, bus_log, ..Call::default() }
     }
 
     fn on() -> Record {

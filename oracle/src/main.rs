@@ -13,6 +13,7 @@ mod campaign;
 mod compare;
 mod differential;
 mod directed;
+mod drops;
 #[cfg(test)]
 mod faults;
 mod fuzz;
@@ -34,7 +35,11 @@ mod port;
 #[cfg(feature = "probe")]
 mod probe;
 mod progress;
+mod protect;
 mod random;
+mod read_only;
+#[cfg(test)]
+mod read_only_faults;
 mod real_logs;
 mod replay;
 mod rerun;

@@ -1,17 +1,19 @@
 //! The flat memory of two lent pages, with a log of every access.
 //!
 //! Document 01: page 0 is addressed 0 to FFFF, page 1 is 10000 to 1FFFF. An address past a page's
-//! end reads FF; a write there is dropped but still is a write of the sequence.
+//! end reads FF; a write there is dropped but still is a write of the sequence. So is a write into
+//! the read-only part of page 0 (document 02, F-4).
 
 #![forbid(unsafe_code)]
 
 use std::cell::RefCell;
 
-use crate::call::{Access, Log};
+use crate::call::{Access, Call, Log, ReadOnly};
 
 #[derive(Default)]
 pub struct Memory {
     pages: [Vec<u8>; 2],
+    read_only: ReadOnly,
     /// Reads are logged through `&self`, because the original reads through `&self`.
     accesses: RefCell<Vec<Access>>,
     starts: Vec<usize>,
@@ -19,7 +21,7 @@ pub struct Memory {
     vectors: Vec<usize>,
     /// The bytes that the present step has replaced: page, offset, old byte.
     replaced: Vec<(usize, usize, u8)>,
-    /// Steps are not told from one another, and are not undone.
+    /// Steps are not told from one another, and are not undone; nothing is read-only.
     one_way: bool,
 }
 
@@ -29,8 +31,14 @@ fn split(address: u32) -> (usize, usize) {
 }
 
 impl Memory {
+    /// A memory of which nothing is read-only.
     pub fn new(pages: [Vec<u8>; 2]) -> Memory {
         Memory { pages, ..Memory::default() }
+    }
+
+    /// The memory that a call is lent.
+    pub fn of(call: &Call) -> Memory {
+        Memory { read_only: call.read_only, ..Memory::new(call.pages.clone()) }
     }
 
     /// A memory that logs accesses and does nothing else: for measured runs.
@@ -48,8 +56,22 @@ impl Memory {
 
     #[inline]
     pub fn write(&mut self, address: u32, byte: u8) {
-        let (page, offset) = split(address);
+        self.note_write(address, byte);
+        if self.one_way || !self.read_only.has(address) {
+            self.store(address, byte);
+        }
+    }
+
+    /// A write as an access of the sequence alone: what it does to a page is left to the caller.
+    #[inline]
+    pub fn note_write(&mut self, address: u32, byte: u8) {
         self.accesses.get_mut().push(Access::write(address, byte));
+    }
+
+    /// Stores a byte, where the address lies inside its page. This is no access.
+    #[inline]
+    pub fn store(&mut self, address: u32, byte: u8) {
+        let (page, offset) = split(address);
         if let Some(place) = self.pages[page].get_mut(offset) {
             if !self.one_way {
                 self.replaced.push((page, offset, *place));
@@ -97,5 +119,30 @@ impl Memory {
         let tried = usize::try_from(steps).ok().and_then(|index| self.starts.get(index));
         let completed = tried.copied().unwrap_or(accesses.len());
         (self.pages, Log { accesses, starts: self.starts, completed, vectors: self.vectors })
+    }
+}
+
+#[cfg(test)]
+mod tests {
+    use super::Memory;
+    use crate::call::{Access, Call, ReadOnly};
+
+    /// Two bytes of page 0 are protected. A write there is an access and changes nothing; a read
+    /// after it finds the old byte; page 1 is stored to at the same offset.
+    #[test]
+    fn a_write_into_the_read_only_part_is_dropped() {
+        let (pages, read_only) = ([vec![1, 2, 3, 4], vec![5; 4]], ReadOnly::new(1, 3));
+        let mut memory = Memory::of(&Call { pages, read_only, ..Call::default() });
+        memory.begin_step();
+        for address in [0, 1, 2, 3, 4, 0x1_0001] {
+            memory.write(address, 9);
+        }
+        assert_eq!((memory.read(1), memory.read(3)), (2, 9));
+        let writes = [0, 1, 2, 3, 4, 0x1_0001].map(|address| Access::write(address, 9));
+        let reads = [Access::read(1, 2), Access::read(3, 9)];
+        assert_eq!(memory.step(), [&writes[..], &reads].concat());
+        assert_eq!(*memory.pages(), [vec![9, 2, 3, 9], vec![5, 9, 5, 5]]);
+        memory.undo_step();
+        assert_eq!(*memory.pages(), [vec![1, 2, 3, 4], vec![5; 4]]);
     }
 }

@@ -1,13 +1,17 @@
 //! A second implementation of a step and of a call, written from the text of documents 01 and 02.
 //!
 //! It is driven by the table of `opcodes.txt`; its flags come from sums, and its accesses are in
-//! document 01's order, a vector's high byte first. It shares only the memory and the types with
-//! the harness of the original.
+//! document 01's order, a vector's high byte first. Which writes are stored is its own rule. It
+//! shares only the types and the memory's reads, list of accesses and undoing with the harness of
+//! the original.
 
 #![forbid(unsafe_code)]
 
+use std::ops::Range;
+
 use crate::call::{
-    Access, Answer, BusLog, Call, Inputs, Record, Side, GREATEST_LIMIT, GREATEST_PAGE, GREATEST_TM,
+    Access, Answer, BusLog, Call, Inputs, ReadOnly, Record, Side, GREATEST_LIMIT, GREATEST_PAGE,
+    GREATEST_TM,
 };
 use crate::memory::Memory;
 use crate::opcodes::{
@@ -50,16 +54,16 @@ impl Side for Model {
         if let Some(number) = refusal(call) {
             return Answer::refused(call, number);
         }
-        let mut memory = Memory::new(call.pages.clone());
+        let mut bus = Bus { memory: Memory::new(call.pages.clone()), kept: kept(call) };
         let bus_log = call.bus_log.clone();
         let mut answer = Answer { record: call.record, bus_log, ..Answer::default() };
         for _ in 0..call.limit {
-            if let Err(stop) = self.next(call.inputs, &mut memory, &mut answer) {
+            if let Err(stop) = self.next(call.inputs, &mut bus, &mut answer) {
                 (answer.number, answer.byte) = (stop.number, stop.byte);
                 break;
             }
         }
-        let (pages, log) = memory.finish(answer.steps);
+        let (pages, log) = bus.memory.finish(answer.steps);
         Answer { pages, log: Some(log), ..answer }
     }
 }
@@ -85,6 +89,30 @@ fn append(log: &mut BusLog, accesses: &[Access]) {
     log.used += accesses.len();
 }
 
+/// The memory, and the addresses where a write is stored.
+struct Bus {
+    memory: Memory,
+    kept: [Range<u32>; 3],
+}
+
+impl Bus {
+    /// Every write is an access; outside of these addresses it changes nothing.
+    fn write(&mut self, address: u32, byte: u8) {
+        self.memory.note_write(address, byte);
+        if self.kept.iter().any(|addresses| addresses.contains(&address)) {
+            self.memory.store(address, byte);
+        }
+    }
+}
+
+/// Document 02, F-4, the other way round: what is below the first, and from the end or the first on,
+/// whichever is greater, as far as page 0 is lent; and page 1 as far as it is lent.
+fn kept(call: &Call) -> [Range<u32>; 3] {
+    let [length0, length1] = [0, 1].map(|page: usize| call.pages[page].len() as u32);
+    let ReadOnly { first, end } = call.read_only;
+    [0..length0.min(first), end.max(first)..length0, 65_536..65_536 + length1]
+}
+
 /// The conditions of 1 to 4, in document 01's order.
 fn refusal(call: &Call) -> Option<u8> {
     let conditions = [
@@ -98,34 +126,29 @@ fn refusal(call: &Call) -> Option<u8> {
 
 impl Model {
     /// The next step of a call: what it adds to the answer, or a stop.
-    fn next(&self, inputs: Inputs, memory: &mut Memory, answer: &mut Answer) -> Result<(), Stop> {
+    fn next(&self, inputs: Inputs, bus: &mut Bus, answer: &mut Answer) -> Result<(), Stop> {
         answer.bus_log.as_ref().map_or(Ok(()), check_room)?;
-        let step = self.step(answer.record, inputs, memory);
+        let step = self.step(answer.record, inputs, bus);
         if step.is_err() {
-            memory.undo_step();
+            bus.memory.undo_step();
         }
         let (record, states) = step?;
         answer.record = record;
         answer.states += states;
         answer.steps += 1;
         if let Some(log) = &mut answer.bus_log {
-            append(log, memory.step());
+            append(log, bus.memory.step());
         }
         Ok(())
     }
 
     /// One step: the record after it and its states, or a stop.
-    fn step(
-        &self,
-        record: Record,
-        inputs: Inputs,
-        memory: &mut Memory,
-    ) -> Result<(Record, u64), Stop> {
-        memory.begin_step();
+    fn step(&self, record: Record, inputs: Inputs, bus: &mut Bus) -> Result<(Record, u64), Stop> {
+        bus.memory.begin_step();
         let mut step = Step {
             r: record,
             inputs,
-            memory,
+            bus,
             #[cfg(test)]
             slip: self.slip,
         };
@@ -138,7 +161,7 @@ impl Model {
 struct Step<'a> {
     r: Record,
     inputs: Inputs,
-    memory: &'a mut Memory,
+    bus: &'a mut Bus,
     #[cfg(test)]
     slip: Option<Slip>,
 }
@@ -360,7 +383,7 @@ impl Step<'_> {
             Modify::Add => self.sum(byte, code, false),
         };
         self.put_zero(result);
-        self.memory.write(address, result);
+        self.bus.write(address, result);
     }
 
     fn load_code(&mut self, place: Place) {
@@ -393,14 +416,14 @@ impl Step<'_> {
 
     fn store_walking(&mut self, place: Place, by: u16) {
         let Place::Whole(pair) = place else { unreachable!() };
-        self.memory.write(u32::from(self.pair(pair)), self.r.a);
+        self.bus.write(u32::from(self.pair(pair)), self.r.a);
         *self.pair_mut(pair) = self.pair(pair).wrapping_add(by);
     }
 
     /// TIN: the byte at X goes to Y, both move on.
     fn transfer(&mut self) {
         let byte = self.read(u32::from(self.r.x));
-        self.memory.write(u32::from(self.r.y), byte);
+        self.bus.write(u32::from(self.r.y), byte);
         self.r.x = self.r.x.wrapping_add(1);
         self.r.y = self.r.y.wrapping_add(1);
     }
@@ -418,7 +441,7 @@ impl Step<'_> {
         let address = self.address(place);
         let byte = self.read(address);
         let (left, right) = if byte_on_left { (byte, self.r.a) } else { (self.r.a, byte) };
-        self.memory.write(address, left % 16 * 16 + right / 16);
+        self.bus.write(address, left % 16 * 16 + right / 16);
         self.r.a = byte;
     }
 
@@ -576,7 +599,7 @@ impl Step<'_> {
             }
             _ => {
                 let address = self.address(place);
-                self.memory.write(address, byte);
+                self.bus.write(address, byte);
             }
         }
     }
@@ -620,7 +643,7 @@ impl Step<'_> {
     }
 
     fn read(&mut self, address: u32) -> u8 {
-        self.memory.read(address)
+        self.bus.memory.read(address)
     }
 
     /// The next byte of the code; P wraps at FFFF.
@@ -638,14 +661,14 @@ impl Step<'_> {
 
     /// The high byte is read first; the second byte of vector FF is at 10000.
     fn vector_word(&mut self, address: u32) -> u16 {
-        self.memory.mark_vector();
+        self.bus.memory.mark_vector();
         let high = self.read(address);
         let low = self.read(address + 1);
         u16::from_be_bytes([high, low])
     }
 
     fn push(&mut self, byte: u8) {
-        self.memory.write(u32::from(self.r.s), byte);
+        self.bus.write(u32::from(self.r.s), byte);
         self.r.s = self.r.s.wrapping_sub(1);
     }
 
@@ -666,5 +689,29 @@ impl Step<'_> {
         let high = self.pop();
         let low = self.pop();
         u16::from_be_bytes([high, low])
+    }
+}
+
+#[cfg(test)]
+mod tests {
+    use super::kept;
+    use crate::call::{Call, ReadOnly};
+
+    /// Around every edge, a write is stored where it lies inside its page and is not protected.
+    #[test]
+    fn kept_addresses_are_those_that_are_not_protected() {
+        let edges = [0, 1, 2, 15, 16, 17, 0xFFFE, 0xFFFF, 0x1_0000, 0x1_0001, 0x1_0010, u32::MAX];
+        for length in [0, 1, 16, 0xFFFF, 0x1_0000] {
+            let mut call = Call { pages: [vec![0; length], vec![0; length]], ..Call::default() };
+            for (first, end) in edges.into_iter().flat_map(|first| edges.map(|end| (first, end))) {
+                call.read_only = ReadOnly::new(first, end);
+                let kept = kept(&call);
+                for address in edges.into_iter().filter(|address| *address < 0x2_0000) {
+                    let is_inside = ((address & 0xFFFF) as usize) < length;
+                    let is_kept = kept.iter().any(|addresses| addresses.contains(&address));
+                    assert_eq!(is_kept, is_inside && !call.read_only.has(address));
+                }
+            }
+        }
     }
 }

@@ -246,7 +246,7 @@ impl Side for Original {
         if let Some(number) = refusal(lengths, call.record.tm, call.limit) {
             return Answer::refused(call, number);
         }
-        let mut machine = Pc1500::new(&call.record, call.inputs, call.pages.clone());
+        let mut machine = Pc1500::over(&call.record, call.inputs, Memory::of(call));
         let mut answer = Answer { bus_log: call.bus_log.clone(), ..Answer::default() };
         Original::run(&mut machine, call.limit, &mut answer);
         let (pages, log) = machine.memory.finish(answer.steps);

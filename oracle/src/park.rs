@@ -109,7 +109,7 @@ impl Run {
         let record = self.machine.lh5801.record();
         let inputs = Inputs { keyboard: 0, idle };
         let pages = [self.machine.page0.clone(), self.machine.page1.clone()];
-        let call = Call { record, inputs, limit, pages, bus_log: None };
+        let call = Call { record, inputs, limit, pages, ..Call::default() };
         self.machine.begin(&record, inputs);
         let returned = self.machine.original_run(limit, &mut self.counts);
         let sides: [Box<dyn Side>; 2] = [Box::new(Port), Box::<Model>::default()];

@@ -7,7 +7,7 @@ use std::env;
 use std::ops::Range;
 use std::sync::OnceLock;
 
-use crate::call::{Answer, BusLog, Call, Inputs, Record, Side};
+use crate::call::{Answer, BusLog, Call, Inputs, ReadOnly, Record, Side};
 use crate::pair::{Pair, Verdict};
 
 /// The sixteen words that pass: 0 to 11 the record, 12 to 15 number, byte, steps and states.
@@ -34,6 +34,8 @@ mod entry {
             log: *mut u32,
             log_length: usize,
             log_used: usize,
+            read_only_first: u32,
+            read_only_end: u32,
         ) -> usize;
 
         pub fn lh5801_compare(
@@ -63,10 +65,12 @@ pub fn run(
     inputs: Inputs,
     limit: u32,
     lent: Lent,
+    read_only: ReadOnly,
 ) -> usize {
     let (length0, length1) = (page0.len(), page1.len());
     let (words, page0, page1) = (words.as_mut_ptr(), page0.as_mut_ptr(), page1.as_mut_ptr());
     let Inputs { keyboard, idle } = inputs;
+    let ReadOnly { first, end } = read_only;
     let logged = lent.list.is_some();
     let list = lent.list.unwrap_or_default();
     let (length, list) = (list.len(), list.as_mut_ptr());
@@ -76,14 +80,22 @@ pub fn run(
     unsafe {
         entry::lh5801_call(
             words, page0, length0, page1, length1, limit, keyboard, idle, logged, list, length,
-            lent.used,
+            lent.used, first, end,
         )
     }
 }
 
 /// Commands test `LINKED` before they come here.
 #[cfg(not(feature = "port"))]
-pub fn run(_: &mut Words, _: &mut [u8], _: &mut [u8], _: Inputs, _: u32, _: Lent) -> usize {
+pub fn run(
+    _: &mut Words,
+    _: &mut [u8],
+    _: &mut [u8],
+    _: Inputs,
+    _: u32,
+    _: Lent,
+    _: ReadOnly,
+) -> usize {
     unreachable!("this oracle was built without the feature `port`");
 }
 
@@ -249,14 +261,16 @@ fn run_without_log(used: usize, run: impl FnOnce(Lent) -> usize) -> Result<(), S
     }
 }
 
-/// Runs a call on these pages and this log. Half of the calls have bits set above the fields'
-/// widths. The words are a block of the heap, so that valgrind tells an access past their end.
+/// Runs a call on these pages, with this log and this read-only part. Half of the calls have bits set
+/// above the fields' widths. The words are a block of the heap, so that valgrind tells an access past
+/// their end.
 pub fn call(
     given: &Record,
     inputs: Inputs,
     limit: u32,
     pages: &mut [Vec<u8>; 2],
     log: Option<&mut BusLog>,
+    read_only: ReadOnly,
 ) -> Answer {
     let mut words = Box::new(words(given));
     let noise = words[12].wrapping_mul(0xBF58_476D_1CE4_E5B9);
@@ -264,7 +278,7 @@ pub fn call(
         add_noise(&mut words, noise);
     }
     let [page0, page1] = pages;
-    let once = |lent: Lent| run(&mut words, page0, page1, inputs, limit, lent);
+    let once = |lent: Lent| run(&mut words, page0, page1, inputs, limit, lent, read_only);
     let kept = match log {
         Some(log) => run_logged(log, guard(), once),
         None => run_without_log(noise as usize, once),
@@ -293,7 +307,8 @@ impl Side for Port {
     fn call(&mut self, given: &Call) -> Answer {
         let mut pages = given.pages.clone();
         let mut log = given.bus_log.clone();
-        let answer = call(&given.record, given.inputs, given.limit, &mut pages, log.as_mut());
+        let Call { record, inputs, limit, read_only, .. } = given;
+        let answer = call(record, *inputs, *limit, &mut pages, log.as_mut(), *read_only);
         Answer { pages, bus_log: log, ..answer }
     }
 }
@@ -302,7 +317,7 @@ impl Side for Port {
 mod tests {
     use super::{add_noise, record, run_logged, run_without_log, watched, words, Block, Lent};
     #[cfg(feature = "port")]
-    use super::{compare_kept, run, Call, Inputs, Port, Side, TM};
+    use super::{compare_kept, run, Call, Inputs, Port, ReadOnly, Side, TM};
     use crate::call::{BusLog, Record};
     #[cfg(feature = "port")]
     use crate::original::Original;
@@ -404,7 +419,8 @@ mod tests {
         for tm in [65_536, 65_536 + 511, 1 << 32, u64::MAX] {
             let mut given = words(&Record { bf: true, ..Record::default() });
             given[TM] = tm;
-            run(&mut given, &mut [0x38; 6], &mut [], Inputs::default(), 1, Lent::default());
+            let (inputs, lent) = (Inputs::default(), Lent::default());
+            run(&mut given, &mut [0x38; 6], &mut [], inputs, 1, lent, ReadOnly::default());
             assert_eq!(given[12], 3, "TM {tm}");
             assert_eq!(given[TM], 65_535, "TM {tm}");
         }

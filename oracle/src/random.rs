@@ -272,7 +272,7 @@ pub fn call(random: &mut Random) -> Call {
         }
     }
     let inputs = Inputs::of_keyboard(random.byte());
-    Call { record, inputs, limit: limit(random), pages, bus_log: None }
+    Call { record, inputs, limit: limit(random), pages, ..Call::default() }
 }
 
 /// An idle figure: 0 in half of the calls, else often an edge.

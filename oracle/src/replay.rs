@@ -1,6 +1,6 @@
 //! The list that the port's program `replay` holds (`../crates/replay/data`), through the port's
-//! two libraries: a call through `lh5801_call` with the idle figure 0 and the item's log or none, a
-//! file that is turned down through `probe_report`.
+//! two libraries: a call through `lh5801_call` with the idle figure 0, the item's log or none and its
+//! read-only part, a file that is turned down through `probe_report`.
 //!
 //! Each page, the words, each file, the line's buffer and each log's list are blocks of the heap that
 //! are exactly as long as they have to be: valgrind tells an access past their ends (`../memcheck`).
@@ -10,7 +10,7 @@
 use std::fs;
 use std::path::Path;
 
-use crate::call::{Call, Side};
+use crate::call::{Call, ReadOnly, Side};
 use crate::campaign;
 use crate::item::{sums, Item, Rest};
 use crate::lines::Report;
@@ -24,6 +24,8 @@ pub struct Tally {
     /// Calls with a log, and those of them that end with 11.
     logged: u64,
     full: u64,
+    /// Calls with a read-only part.
+    protected: u64,
     /// Files that are turned down: nothing is run.
     refused: u64,
     steps: u64,
@@ -52,10 +54,11 @@ impl Tally {
         Ok(answer.failure.is_none() && line == item.line && sums(&answer) == item.sums)
     }
 
-    /// A call's log and pages.
+    /// A call's log, read-only part and pages.
     fn add(&mut self, call: &Call) {
         self.calls += 1;
         self.logged += u64::from(call.bus_log.is_some());
+        self.protected += u64::from(call.read_only != ReadOnly::default());
         for page in &call.pages {
             for (count, length) in self.pages.iter_mut().zip([0, 65_536, 65_537]) {
                 *count += u64::from(page.len() == length);
@@ -65,19 +68,19 @@ impl Tally {
 
     /// Prints what there was; true where nothing differs.
     pub fn print(&self) -> bool {
-        let Tally { calls, logged, full, refused, steps, most_steps, pages, differing } = self;
-        for item in differing {
+        let Tally { calls, logged, full, protected, refused, steps, most_steps, .. } = self;
+        for item in &self.differing {
             println!("item {item} differs");
         }
-        let [empty, greatest, above] = pages;
+        let [empty, greatest, above] = self.pages;
         println!(
             "{calls} calls through lh5801_call: {steps} steps, at most {most_steps} in a call;"
         );
         println!("  {empty} pages empty, {greatest} of 65,536 bytes, {above} of 65,537;");
-        println!("  {logged} with a log, {full} of them end with 11");
+        println!("  {logged} with a log, {full} of them end with 11; {protected} read-only parts");
         println!("{refused} files turned down through probe_report");
-        println!("{} items, {} differences", calls + refused, differing.len());
-        differing.is_empty()
+        println!("{} items, {} differences", calls + refused, self.differing.len());
+        self.differing.is_empty()
     }
 }
 

@@ -2,18 +2,23 @@
 //! differ wherever the run does not read a byte before it has stored a write there.
 //!
 //! Which bytes are read first, and what is written, comes from the original's log. In half of the
-//! runs both sides are lent a bus log, with equally many free entries and otherwise different.
+//! runs both sides have the same read-only part of page 0: what is dropped there stores nothing, and
+//! each side's bytes in it have to stay, call by call. In half of the runs both sides are lent a bus
+//! log, with equally many free entries and otherwise different.
 
 #![forbid(unsafe_code)]
 
 use crate::call::{
-    Access, Answer, BusLog, Call, Log, Record, Side, GREATEST_LIMIT, GREATEST_TM, MOST_ACCESSES,
+    Access, Answer, BusLog, Call, Log, ReadOnly, Record, Side, GREATEST_LIMIT, GREATEST_TM,
+    MOST_ACCESSES,
 };
 use crate::compare::{self, ends_in_words, ordered_original, slices};
+use crate::drops::Drops;
 use crate::opcodes::{table, Kind, Place};
 use crate::original::Original;
 use crate::port;
 use crate::progress::Progress;
+use crate::protect;
 use crate::random::{self, Random};
 use crate::shrink;
 use bare::Returned;
@@ -30,6 +35,7 @@ enum First {
 struct Course {
     returned: Returned,
     record: Record,
+    read_only: ReadOnly,
     first: [Vec<First>; 2],
     /// The stored writes of completed steps, in order: page, offset, byte.
     writes: Vec<(usize, usize, u8)>,
@@ -40,14 +46,33 @@ struct Course {
     inside: u64,
     /// Steps that waited.
     waits: u64,
+    drops: Drops,
 }
 
 impl Course {
-    /// The bytes of a lent page that an access touches: none past the page's end.
+    /// A course on this call's pages that has not begun.
+    fn new(call: &Call) -> Course {
+        Course {
+            returned: Returned::default(),
+            record: call.record,
+            read_only: call.read_only,
+            first: [0, 1].map(|page: usize| vec![First::None; call.pages[page].len()]),
+            writes: vec![],
+            entries: vec![],
+            later_reads: 0,
+            inside: 0,
+            waits: 0,
+            drops: Drops::default(),
+        }
+    }
+
+    /// The byte of a lent page that an access reads or changes: none past the page's end, and none
+    /// where a write is dropped by the read-only part.
     fn place(&self, access: &Access) -> Option<(usize, usize)> {
         let address = access.address();
         let (page, offset) = ((address >> 16) as usize, (address & 0xFFFF) as usize);
-        (offset < self.first[page].len()).then_some((page, offset))
+        let is_dropped = access.is_write() && self.read_only.has(address);
+        (offset < self.first[page].len() && !is_dropped).then_some((page, offset))
     }
 
     /// Reads of a stopping step count, and so would its writes; writes that are kept are those of
@@ -125,10 +150,7 @@ impl Course {
 /// The original over a list of calls, which hand on the bus log. Its vector reads are put in
 /// document 01's order where there is one.
 fn course(call: &Call, limits: &[u32]) -> Result<Course, String> {
-    let first = [0, 1].map(|page: usize| vec![First::None; call.pages[page].len()]);
-    let (returned, record, writes, entries) = (Returned::default(), call.record, vec![], vec![]);
-    let mut course =
-        Course { returned, record, first, writes, entries, later_reads: 0, inside: 0, waits: 0 };
+    let mut course = Course::new(call);
     let mut next = call.clone();
     for limit in limits {
         next.limit = *limit;
@@ -140,6 +162,7 @@ fn course(call: &Call, limits: &[u32]) -> Result<Course, String> {
             return Err(format!("the original failed: {message}"));
         }
         course.end_call(&answer);
+        course.drops.add(&next, &answer);
         (next.record, next.pages, next.bus_log) = (answer.record, answer.pages, answer.bus_log);
     }
     if let (Some(given), Some(log)) = (&call.bus_log, &next.bus_log) {
@@ -157,7 +180,8 @@ struct Lane<'a> {
 }
 
 /// The port over a list of calls: its answers must sum up to the course. All calls have the call's
-/// idle figure, on both sides: only then are two runs comparable. The used count is handed on.
+/// idle figure and read-only part, on both sides: only then are two runs comparable. The used count
+/// is handed on.
 fn follow(course: &Course, call: &Call, lane: &Lane) -> Result<(), String> {
     let mut after = lane.pages.clone();
     let mut log = lane.bus_log.cloned();
@@ -165,10 +189,12 @@ fn follow(course: &Course, call: &Call, lane: &Lane) -> Result<(), String> {
     let mut last = None;
     let mut record = call.record;
     for limit in lane.limits {
-        let answer = port::call(&record, call.inputs, *limit, &mut after, log.as_mut());
+        let (inputs, log) = (call.inputs, log.as_mut());
+        let answer = port::call(&record, inputs, *limit, &mut after, log, call.read_only);
         if let Some(message) = &answer.failure {
             return Err(format!("failure: {message}"));
         }
+        protected_stays(call.read_only, &lane.pages[0], &after[0])?;
         record = answer.record;
         steps += answer.steps;
         states += answer.states;
@@ -182,6 +208,12 @@ fn follow(course: &Course, call: &Call, lane: &Lane) -> Result<(), String> {
         .or_else(|| compare::pages_difference(slices(&expected), slices(&after)))
         .or_else(|| compare::bus_log_difference(appended.as_ref(), log.as_ref()))
         .map_or(Ok(()), Err)
+}
+
+/// After every call, each byte of the read-only part is what it was.
+fn protected_stays(read_only: ReadOnly, before: &[u8], after: &[u8]) -> Result<(), String> {
+    let changed = read_only.offsets(before.len()).find(|i| before[*i] != after[*i]);
+    changed.map_or(Ok(()), |offset| Err(format!("the read-only byte at {offset:04X} changed")))
 }
 
 /// Another value for every byte that is not read first.
@@ -234,6 +266,9 @@ struct Counts {
     logged_runs: u64,
     logged_steps: u64,
     entries: u64,
+    /// Runs with a read-only part, and what it did, call by call of the original.
+    protected_runs: u64,
+    drops: Drops,
 }
 
 impl Counts {
@@ -258,6 +293,8 @@ impl Counts {
         self.inside += course.inside;
         self.waits += course.waits;
         self.waiting_runs += u64::from(course.waits > 0);
+        self.protected_runs += u64::from(course.read_only != ReadOnly::default());
+        self.drops.join(&course.drops);
     }
 
     fn print(&self) {
@@ -279,6 +316,7 @@ impl Counts {
             "runs with a log: {}, of {} steps and {} entries",
             self.logged_runs, self.logged_steps, self.entries
         );
+        println!("runs with a read-only part: {}; {}", self.protected_runs, self.drops);
     }
 }
 
@@ -341,7 +379,7 @@ fn case(random: &mut Random) -> Call {
         _ => 1 + random.below(400) as u32,
     };
     match random.below(100) {
-        0..=3 => stack_over_vectors(random, &mut call.record),
+        0..=3 => protect::stack_over_vectors(random, &mut call.record),
         4..=23 => near_stores(random, &mut call),
         _ => {}
     }
@@ -349,7 +387,7 @@ fn case(random: &mut Random) -> Call {
     if random.chance(50) {
         call.bus_log = Some(first_log(random, call.limit));
     }
-    call
+    protect::sometimes(random, call)
 }
 
 /// Code that stores and loads among a few bytes of both pages, so that many are written first.
@@ -382,14 +420,10 @@ fn storing(random: &mut Random) -> Vec<u8> {
     }
 }
 
-/// An interrupt whose pushes lie over its own vector.
-fn stack_over_vectors(random: &mut Random, record: &mut Record) {
-    record.s = 0xFFF7 + random.below(8) as u16;
-    record.set_flags(0x008 | random.pick(&[0x040, 0x080, 0x100, 0x041]));
-    record.t |= 0x02;
-}
+/// In a run of so many cases read-only parts have to have done all that they can do.
+const MANY: u64 = 2000;
 
-/// Runs the cases; true where demand 3 held in each.
+/// Runs the cases; true where demand 3 held in each, and read-only parts came as they have to.
 pub fn run(cases: u64, seed: u64) -> bool {
     println!("seed {seed}, lists of calls through the port");
     let mut counts = Counts::default();
@@ -407,7 +441,11 @@ pub fn run(cases: u64, seed: u64) -> bool {
     progress.wipe();
     counts.print();
     println!("{cases} runs, {} calls, {} steps, 0 differences", counts.calls, counts.steps);
-    true
+    let reached = cases < MANY || counts.drops.have_all();
+    if !reached {
+        println!("the read-only parts did not do all that they have to");
+    }
+    reached
 }
 
 fn report(call: Call, seed: u64, index: u64) {
@@ -428,8 +466,8 @@ fn report(call: Call, seed: u64, index: u64) {
 
 #[cfg(test)]
 mod tests {
-    use super::{course, cut, First};
-    use crate::call::{Call, Record};
+    use super::{course, cut, protected_stays, First};
+    use crate::call::{Call, ReadOnly, Record};
     use crate::random::Random;
 
     #[test]
@@ -455,6 +493,32 @@ mod tests {
         assert_eq!((course.later_reads, course.inside), (2, 2));
         assert_eq!(course.writes.len(), 3);
         assert!(course.first[0].iter().all(|first| *first != First::Read));
+    }
+
+    /// The same with FFFA read-only: its write stores nothing, so that the vector reads it first.
+    #[test]
+    fn a_dropped_write_leaves_its_byte_unwritten() {
+        let record = Record { s: 0xFFFB, t: 2, bf: true, ir1: true, ..Record::default() };
+        let (pages, read_only) = ([vec![0x38; 65_536], vec![]], ReadOnly::new(0xFFFA, 0xFFFB));
+        let call = Call { record, limit: 1, pages, read_only, ..Call::default() };
+        let course = course(&call, &[1]).unwrap();
+        let [written, read, later] = [0xFFF9, 0xFFFA, 0xFFFB].map(|i| course.first[0][i]);
+        assert!(written == First::Written && read == First::Read && later == First::Written);
+        assert_eq!((course.later_reads, course.inside), (1, 1));
+        assert_eq!(course.writes.iter().map(|write| write.1).collect::<Vec<_>>(), [0xFFFB, 0xFFF9]);
+        let whole = Call { read_only: ReadOnly::new(0, u32::MAX), ..call };
+        let course = super::course(&whole, &[1]).unwrap();
+        assert!(course.first[0][0xFFF9] == First::None && course.writes.is_empty());
+        assert!(course.stored(&whole.pages) == whole.pages);
+    }
+
+    #[test]
+    fn a_changed_byte_of_the_part_is_seen() {
+        let part = ReadOnly::new(1, 3);
+        assert_eq!(protected_stays(part, &[1, 2, 3, 4], &[9, 2, 3, 9]), Ok(()));
+        assert!(protected_stays(part, &[1, 2, 3, 4], &[1, 9, 3, 4]).is_err());
+        assert!(protected_stays(part, &[1, 2, 3, 4], &[1, 2, 9, 4]).is_err());
+        assert_eq!(protected_stays(ReadOnly::new(4, 70_000), &[1], &[2]), Ok(()));
     }
 
     /// A stopping step's reads count; a read past the end and a dropped write do not.

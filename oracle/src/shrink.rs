@@ -1,11 +1,11 @@
-//! Makes a failing call smaller: fewer steps first, then the log and memory, then registers and
-//! flags.
+//! Makes a failing call smaller: fewer steps first, then the log, the read-only part and memory, then
+//! registers and flags.
 
 #![forbid(unsafe_code)]
 
 use std::fmt::Write;
 
-use crate::call::{BusLog, Call, Inputs, Record, Side};
+use crate::call::{BusLog, Call, Inputs, ReadOnly, Record, Side};
 use crate::original::Original;
 
 type Fails<'a> = &'a mut dyn FnMut(&Call) -> bool;
@@ -17,6 +17,8 @@ pub fn shrink(call: Call, fails: Fails) -> Call {
         let before = best.clone();
         shrink_steps(&mut best, fails);
         shrink_log(&mut best, fails);
+        shrink_read_only(&mut best, fails);
+        move_part(&mut best, fails);
         move_down(&mut best, fails);
         shrink_pages(&mut best, fails);
         shrink_record(&mut best, fails);
@@ -65,6 +67,7 @@ fn begin_later(best: &mut Call, steps: u32, fails: Fails) -> bool {
         limit: best.limit - steps,
         inputs: best.inputs,
         bus_log: head.bus_log,
+        read_only: best.read_only,
     };
     head.number == 0 && keep(best, candidate, fails)
 }
@@ -105,6 +108,55 @@ fn smaller_logs(log: &BusLog) -> Vec<BusLog> {
         logs.push(BusLog { entries: vec![0; length], used });
     }
     logs
+}
+
+/// How large a read-only part is: its bytes of page 0, then its end, then its first.
+fn size(part: ReadOnly) -> (usize, u32, u32) {
+    (part.offsets(65_536).len(), part.end, part.first)
+}
+
+/// No read-only part at all, or else one of fewer bytes and with smaller numbers.
+fn shrink_read_only(best: &mut Call, fails: Fails) {
+    loop {
+        let part = best.read_only;
+        let smaller = parts_like(part).into_iter().filter(|other| size(*other) < size(part));
+        let candidates = smaller.map(|read_only| Call { read_only, ..best.clone() });
+        let candidates = candidates.collect::<Vec<_>>();
+        if !candidates.into_iter().any(|candidate| keep(best, candidate, fails)) {
+            return;
+        }
+    }
+}
+
+/// Read-only parts with other ends, the smallest ones first.
+fn parts_like(part: ReadOnly) -> Vec<ReadOnly> {
+    let ReadOnly { first, end } = part;
+    let size = end.saturating_sub(first);
+    let less = |number: u32| [2, 4, 64].map(|part| number - number / part);
+    let one_less = |number: u32| [number.saturating_sub(1)];
+    let ends = [0, first, first.saturating_add(1), first.saturating_add(size / 2), 65_536, 65_537];
+    let ends = ends.into_iter().chain(less(end)).chain(one_less(end));
+    let firsts = [0, 1, end.saturating_sub(size / 2), first.saturating_add(1)];
+    let firsts = one_less(end).into_iter().chain(firsts).chain(less(first)).chain(one_less(first));
+    let with_end = ends.map(|end| ReadOnly { first, end });
+    let with_first = firsts.map(|first| ReadOnly { first, end });
+    [ReadOnly::default()].into_iter().chain(with_end).chain(with_first).collect()
+}
+
+/// Moves X, Y, U or S down to the pages' beginning, and the read-only part by as much.
+fn move_part(best: &mut Call, fails: Fails) {
+    let registers: [Register; 4] = [|r| &mut r.x, |r| &mut r.y, |r| &mut r.u, |r| &mut r.s];
+    for (register, target) in registers.into_iter().flat_map(|r| [3, 8].map(|to| (r, to))) {
+        let mut candidate = best.clone();
+        let place = register(&mut candidate.record);
+        let down = u32::from(place.saturating_sub(target));
+        *place = target.min(*place);
+        let ReadOnly { first, end } = best.read_only;
+        if down > 0 && down <= first {
+            candidate.read_only = ReadOnly { first: first - down, end: end.saturating_sub(down) };
+            keep(best, candidate, fails);
+        }
+    }
 }
 
 fn shrink_pages(best: &mut Call, fails: Fails) {
@@ -250,12 +302,13 @@ fn move_down(best: &mut Call, fails: Fails) {
     }
 }
 
-/// A call in words: record, keyboard, idle figure, limit, the bytes of the pages that are not zero,
-/// and the log with its first entries that are not zero.
+/// A call in words: record, keyboard, idle figure, limit, the read-only part's two numbers, the bytes
+/// of the pages that are not zero, and the log with its first entries that are not zero.
 pub fn describe(call: &Call) -> String {
     let mut text = format!("record: {}\n", call.record);
     let Inputs { keyboard, idle } = call.inputs;
     let _ = writeln!(text, "keyboard {keyboard:02X}, idle figure {idle}, limit {}", call.limit);
+    let _ = writeln!(text, "read-only: {}", call.read_only);
     for (page, bytes) in call.pages.iter().enumerate() {
         let _ = write!(text, "page {page}: length {}", bytes.len());
         let set = bytes.iter().enumerate().filter(|(_, byte)| **byte != 0);

@@ -102,8 +102,9 @@ impl Sides {
                 ORIGINAL => number = self.machine.original_run(work.cut, &mut ()).number.into(),
                 _ => {
                     let [page0, page1] = &mut self.pages;
-                    let (inputs, lent) = (work.call.inputs, Lent::default());
-                    port::run(&mut self.words, page0, page1, inputs, work.cut, lent);
+                    let Call { inputs, read_only, .. } = work.call;
+                    let (words, lent) = (&mut self.words, Lent::default());
+                    port::run(words, page0, page1, inputs, work.cut, lent, read_only);
                     number = self.words[12];
                 }
             }
@@ -296,8 +297,8 @@ pub fn once(way: &str, file: &Path, is_logged: bool) -> Result<String, String> {
     let mut call = load(file)?;
     if way == WAYS[PORT] {
         let mut log = is_logged.then(|| BusLog::for_steps(call.limit));
-        let Call { record, inputs, limit, pages, .. } = &mut call;
-        let answer = port::call(record, *inputs, *limit, pages, log.as_mut());
+        let Call { record, inputs, limit, pages, read_only, .. } = &mut call;
+        let answer = port::call(record, *inputs, *limit, pages, log.as_mut(), *read_only);
         return answer.failure.clone().map_or_else(|| Ok(answer.line()), Err);
     }
     let mut machine = Pc1500::new(&call.record, call.inputs, call.pages);

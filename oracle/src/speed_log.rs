@@ -59,7 +59,8 @@ impl Sides {
             } else {
                 let [page0, page1] = &mut self.pages;
                 let lent = Lent { list: Some(&mut self.log.entries), used: 0 };
-                self.log.used = port::run(&mut self.words, page0, page1, call.inputs, CUT, lent);
+                let (words, inputs, read_only) = (&mut self.words, call.inputs, call.read_only);
+                self.log.used = port::run(words, page0, page1, inputs, CUT, lent, read_only);
             }
         }
         if way == PORT {

@@ -1,18 +1,18 @@
 //! Replays a list of the original's answers, and prints how many calls there were and how many differ. No Rust is needed for it.
 //!
 //! The list, data/answers0.bin and on, cut between items, was made by `oracle items 1500 --seed 7 --out DIR`; a test of the oracle makes it again. First
-//! come 3,017 calls with the original's answers, where stops 1 to 4, 7 and 11 are the oracle's own: the 923 directed calls of `oracle list` without a log
-//! and 1,500 random ones, every third of which has a log; then directed calls with a log: 187 short runs with used counts up to, at and beyond the list's
-//! end, each listed opcode once, and 91 of the directed calls again, which are not of an opcode each and take less than a million steps. In all 1,094 calls
-//! have a log, and 230 end with 11, 123 of them after completed steps. Then come 121 files that are turned down with 8, 9 or 10: document 01's example cut
-//! at every place, with bytes left over, with each field too great or too long, and with random bytes changed; their lines are the oracle's own reading,
-//! for the original has none.
+//! come 3,164 calls with the original's answers, where stops 1 to 4, 7 and 11 and the dropping of writes are the oracle's own: the 923 directed calls of
+//! `oracle list` without a log and 1,500 random ones, every third of which has a log; then directed calls with a log: 187 short runs with used counts up
+//! to, at and beyond the list's end, each listed opcode once, and 91 of the directed calls again, which are not of an opcode each and take less than a
+//! million steps; then 147 directed calls with a read-only part, 73 of them with a log. In all 1,167 calls have a log, and 232 end with 11, 125 of them
+//! after completed steps. Then come 121 files that are turned down with 8, 9 or 10: document 01's example cut at every place, with bytes left over, with
+//! each field too great or too long, and with random bytes changed; their lines are the oracle's own reading, for the original has none.
 //! An item, its numbers lowest byte first: the campaign file's length (2 bytes), the two pages' lengths (4 each), the line's length (1), the fill
 //! rule's first byte and step (1 each), how many bytes are set after it (1), the log's used count, or 65,535 where no log is lent (2), first and end of
-//! the read-only part (4 each); the campaign file; document 01's line; for each byte that is set its offset (2), page (1) and value (1); the two sums over what the call leaves (8 each): both pages, then
-//! all entries of the list, then the used count. The pages lent are as long as the item says: the fill rule, then the campaign file's bytes at their start,
-//! then the bytes that are set. So pages can be longer than a campaign file holds. The list has 64 entries, each FFFFFFFF before the call, also where no
-//! log is lent; the used count is then 0.
+//! the read-only part (4 each); the campaign file; document 01's line; for each byte that is set its offset (2), page (1) and value (1); the two sums over
+//! what the call leaves (8 each): both pages, then all entries of the list, then the used count. The pages lent are as long as the item says: the fill
+//! rule, then the campaign file's bytes at their start, then the bytes that are set. So pages can be longer than a campaign file holds. The list has 64
+//! entries, each FFFFFFFF before the call, also where no log is lent; the used count is then 0.
 #![tactic(auto)]
 
 ghost use Rattle.std.specs.Prelude.{◌≡◌, ℕ, ◌+◌, ◌^◌, ◌<◌, ◌≤◌, List, None, Some, length, take, IfOk, IfSome, MatchOption, slice_set};
@@ -31,7 +31,7 @@ use std::rt::Files;
 use std::{fs, io};
 
 // The parts of the list, each in a file.
-const PARTS: [&str; 8] = [
+const PARTS: [&str; 9] = [
     "answers0.bin",
     "answers1.bin",
     "answers2.bin",
@@ -40,6 +40,7 @@ const PARTS: [&str; 8] = [
     "answers5.bin",
     "answers6.bin",
     "answers7.bin",
+    "answers8.bin",
 ];
 
 // Two running sums over numbers: each number is added to the first, and then the first to the second, modulo 2^64.
@@ -391,7 +392,7 @@ fn both(a: Tally, b: Tally) -> Tally
     }
 }
 
-// Replays the eight parts and prints the counts. A file that cannot be opened or read ends the program with its error, and no count is printed.
+// Replays the nine parts and prints the counts. A file that cannot be opened or read ends the program with its error, and no count is printed.
 fn main(rt: HostRuntime) -> io::Result<()> {
     let mut tally = Tally::default();
     for path in PARTS {

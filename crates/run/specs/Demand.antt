@@ -44,10 +44,10 @@ pub record SameAsRun (p q : Pages) (run : CallResult) (calls : List CallResult) 
   pub run_pages : Written p (writes_of run) run.pages
   pub list_pages : Written q (flatten (map writes_of calls)) (get_last calls some_call).pages
 
--- for every accepted run, and every list of limits, at least 1 each, that add up to the run's; for pages equally long, with the same read-only part, that
--- agree at each byte that the run reads before it has written it: "a dropped write leaves its byte unwritten" (document 02, F-4). Run and list share the inputs: the keyboard byte and, "comparable .. only if their idle figures
--- are equal too" (document 02, F-1), the idle figure. They "start with equally many free entries, or neither has a log" (F-2). An empty list adds up
--- to 0, and such a run is not accepted
+-- for every accepted run, and every list of limits, at least 1 each, that add up to the run's; for pages equally long, with "the same two addresses on
+-- both sides" (document 02, F-4), that agree at each byte that the run reads before it has written it, where "a dropped write leaves its byte unwritten".
+-- Run and list share the inputs: the keyboard byte and, "comparable .. only if their idle figures are equal too" (F-1), the idle figure. They "start with
+-- equally many free entries, or neither has a log" (F-2). An empty list adds up to 0, and such a run is not accepted
 unfoldable pub Demand3 : Type 0
 Demand3 =
     (s : Settings) (free : Option ℕ) (m : Lh5801) (p : Pages)

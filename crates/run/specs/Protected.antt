@@ -1,25 +1,29 @@
 -- Steps and calls on pages of which a part is read-only (document 02, F-4): what must come out. proofs/Protected.antt has the theorems over them.
-use Rattle.std.specs.Prelude.{ℕ, true, false, Bool, List, [], ◌∷◌, map}
+use Rattle.std.specs.Prelude.{ℕ, true, false, Bool, List, [], ◌∷◌, map, replicate}
 use Rattle.arithmetic.specs.declared.record.Lh5801.{Lh5801}
-use Rattle.arithmetic.specs.Record.{with_x, with_bf}
+use Rattle.arithmetic.specs.Record.{with_x, with_s, with_bf}
 use Rattle.pages.specs.declared.ReadOnly.{ReadOnly}
-use Rattle.pages.specs.Pages.{Pages, read_only_of, at}
+use Rattle.pages.specs.Pages.{Pages, read_only_of, writable, at}
 use Rattle.pages.specs.Prog.{Access, read_of, write_of, Ran}
+use Rattle.pages.specs.Stack.{word_of}
 use Rattle.execution.specs.Step.{StepEnd, did, stopped}
 use Rattle.run.specs.AccessOrders.{Seen, seen_of, coded, start_record, interrupted, long, CallCase, wrote}
 
--- what is seen of a step: as in AccessOrders.antt; S after it; and what some addresses hold after it
+-- what is seen of a step: as in AccessOrders.antt; S and P after it; and what some addresses hold after it
 pub record ProtectedSeen : Type 0 where
   pub seen : Seen
   pub s : ℕ
+  pub p : ℕ
   pub bytes : List ℕ
 
-abbrev pub s_after : Lh5801 → StepEnd → ℕ
-s_after m (did k states kind) = k.s
-s_after m (stopped s) = m.s
+abbrev pub record_after : Lh5801 → StepEnd → Lh5801
+record_after m (did k states kind) = k
+record_after m (stopped s) = m
 
 abbrev pub protected_seen : Lh5801 → List ℕ → Ran StepEnd → ProtectedSeen
-protected_seen m addresses r = record { seen = seen_of r.answer r.accesses; s = s_after m r.answer; bytes = map (at r.pages) addresses }
+protected_seen m addresses r =
+    let k = record_after m r.answer in
+    record { seen = seen_of r.answer r.accesses; s = k.s; p = k.p; bytes = map (at r.pages) addresses }
 
 -- a step, the addresses that are looked at after it, and what it must come to
 pub record ProtectedCase : Type 0 where
@@ -32,40 +36,47 @@ pub record ProtectedCase : Type 0 where
 abbrev pub with_read_only : ReadOnly → Pages → Pages
 with_read_only r p = record p { read_only = r }
 
--- record, pages, part and addresses; states, accesses, S and bytes
-abbrev pub leaves : Lh5801 → Pages → ReadOnly → List ℕ → ℕ → List Access → ℕ → List ℕ → ProtectedCase
-leaves m p r addresses states l s bytes = record {
+-- record, pages, part and addresses; states, accesses, S, P and bytes
+abbrev pub leaves : Lh5801 → Pages → ReadOnly → List ℕ → ℕ → List Access → ℕ → ℕ → List ℕ → ProtectedCase
+leaves m pages r addresses states l s p bytes = record {
   cpu = m;
-  pages = with_read_only r p;
+  pages = with_read_only r pages;
   addresses = addresses;
-  comes = record { seen = record { number = 0; states = states; accesses = l }; s = s; bytes = bytes };
+  comes = record { seen = record { number = 0; states = states; accesses = l }; s = s; p = p; bytes = bytes };
 }
 
 -- PSH A pushes 75 at 000C, where 1C is; with this part, what 000C holds after it
 abbrev pub psh_pushes : ReadOnly → ℕ → ProtectedCase
 psh_pushes r byte =
-    leaves start_record (coded (0xFD ∷ 0xC8 ∷ [])) r (0x0C ∷ []) 11 (read_of 0x00 0xFD ∷ read_of 0x01 0xC8 ∷ write_of 0x0C 0x75 ∷ []) 0x0B (byte ∷ [])
+    leaves start_record (coded (0xFD ∷ 0xC8 ∷ [])) r (0x0C ∷ []) 11 (read_of 0x00 0xFD ∷ read_of 0x01 0xC8 ∷ write_of 0x0C 0x75 ∷ []) 0x0B 0x02 (byte ∷ [])
 
 -- SJP pushes 0003 at 000C and 000B, where 1C and 1B are
 abbrev pub sjp_pushes : ReadOnly → ℕ → ℕ → ProtectedCase
 sjp_pushes r low high =
     leaves start_record (coded (0xBE ∷ 0x00 ∷ 0x0B ∷ [])) r (0x0C ∷ 0x0B ∷ []) 19
-    (read_of 0x00 0xBE ∷ read_of 0x01 0x00 ∷ read_of 0x02 0x0B ∷ write_of 0x0C 0x03 ∷ write_of 0x0B 0x00 ∷ []) 0x0A (low ∷ high ∷ [])
+    (read_of 0x00 0xBE ∷ read_of 0x01 0x00 ∷ read_of 0x02 0x0B ∷ write_of 0x0C 0x03 ∷ write_of 0x0B 0x00 ∷ []) 0x0A 0x0B (low ∷ high ∷ [])
 
 -- STA at 0008, where 18 is, and at 10008, where 28 is
 abbrev pub sta_on_0 : ReadOnly → ℕ → ProtectedCase
-sta_on_0 r byte = leaves start_record (coded (0x0E ∷ [])) r (0x08 ∷ []) 6 (read_of 0x00 0x0E ∷ write_of 0x08 0x75 ∷ []) 0x0C (byte ∷ [])
+sta_on_0 r byte = leaves start_record (coded (0x0E ∷ [])) r (0x08 ∷ []) 6 (read_of 0x00 0x0E ∷ write_of 0x08 0x75 ∷ []) 0x0C 0x01 (byte ∷ [])
 
 abbrev pub sta_on_1 : ReadOnly → ℕ → ProtectedCase
 sta_on_1 r byte =
-    leaves start_record (coded (0xFD ∷ 0x0E ∷ [])) r (0x10008 ∷ []) 10 (read_of 0x00 0xFD ∷ read_of 0x01 0x0E ∷ write_of 0x10008 0x75 ∷ []) 0x0C (byte ∷ [])
+    leaves start_record (coded (0xFD ∷ 0x0E ∷ [])) r (0x10008 ∷ []) 10 (read_of 0x00 0xFD ∷ read_of 0x01 0x0E ∷ write_of 0x10008 0x75 ∷ []) 0x0C 0x02 (byte ∷ [])
 
 -- an interrupt with S at FFFB on a page of zeros: T, 02, is pushed at FFFB and P's low byte, 04, at FFFA. With this part, what the vector reads, and so
 -- what FFFA and FFFB hold
 abbrev pub enters : ReadOnly → ℕ → ℕ → ProtectedCase
 enters r high low =
     leaves (interrupted 0xFFFB) long r (0xFFFA ∷ 0xFFFB ∷ 0xFFF9 ∷ []) 0
-    (write_of 0xFFFB 0x02 ∷ write_of 0xFFFA 0x04 ∷ write_of 0xFFF9 0x03 ∷ read_of 0xFFFA high ∷ read_of 0xFFFB low ∷ []) 0xFFF8 (high ∷ low ∷ 0x03 ∷ [])
+    (write_of 0xFFFB 0x02 ∷ write_of 0xFFFA 0x04 ∷ write_of 0xFFF9 0x03 ∷ read_of 0xFFFA high ∷ read_of 0xFFFB low ∷ []) 0xFFF8 (word_of high low)
+    (high ∷ low ∷ 0x03 ∷ [])
+
+-- C0 at 0000 with S at FFC1, zeros elsewhere: P, 0001, is pushed at FFC1 and FFC0, which are its vector. With this part, what FFC1 reads
+abbrev pub takes_vector : ReadOnly → ℕ → ProtectedCase
+takes_vector r low =
+    leaves (with_s start_record 0xFFC1) (writable (0xC0 ∷ replicate 65_535 0x00) []) r (0xFFC0 ∷ 0xFFC1 ∷ []) 17
+    (read_of 0x00 0xC0 ∷ write_of 0xFFC1 0x01 ∷ write_of 0xFFC0 0x00 ∷ read_of 0xFFC0 0x00 ∷ read_of 0xFFC1 low ∷ []) 0xFFBF low (0x00 ∷ low ∷ [])
 
 unfoldable pub protected_cases : List ProtectedCase
 protected_cases =
@@ -90,17 +101,21 @@ protected_cases =
     ∷ sta_on_1 (read_only_of 0x08 0x09) 0x75
     ∷ sta_on_0 (read_only_of 0x10000 0x20000) 0x75
     -- a part past the end of page 0, which has 16 bytes: a write there is dropped with it or without
-    ∷ leaves (with_x start_record 0x40) (coded (0x0E ∷ [])) (read_only_of 0x40 0x50) (0x40 ∷ []) 6 (read_of 0x00 0x0E ∷ write_of 0x40 0x75 ∷ []) 0x0C (0xFF ∷ [])
+    ∷ leaves (with_x start_record 0x40) (coded (0x0E ∷ [])) (read_only_of 0x40 0x50) (0x40 ∷ []) 6 (read_of 0x00 0x0E ∷ write_of 0x40 0x75 ∷ []) 0x0C 0x01
+    (0xFF ∷ [])
     ∷ sta_on_0 (read_only_of 0x40 0x50) 0x75
-    -- what is read, changed and written back in the part is read as it was; DRL takes A's digits from it all the same
-    ∷ leaves start_record (coded (0xD7 ∷ [])) (read_only_of 0x08 0x09) (0x08 ∷ []) 12 (read_of 0x00 0xD7 ∷ read_of 0x08 0x18 ∷ write_of 0x08 0x87 ∷ []) 0x0C (0x18 ∷ [])
+    -- DRL reads a byte of the part, and its write there is dropped
+    ∷ leaves start_record (coded (0xD7 ∷ [])) (read_only_of 0x08 0x09) (0x08 ∷ []) 12 (read_of 0x00 0xD7 ∷ read_of 0x08 0x18 ∷ write_of 0x08 0x87 ∷ []) 0x0C
+    0x01 (0x18 ∷ [])
     -- a vector whose bytes are protected reads the old ones after the pushes
     ∷ enters (read_only_of 0xFFFA 0xFFFC) 0x00 0x00
     ∷ enters (read_only_of 0xFFFB 0x10000) 0x04 0x00
     ∷ enters (read_only_of 0xFFFA 0xFFFB) 0x00 0x02
     ∷ enters (read_only_of 0xFFFC 0x10000) 0x04 0x02
+    ∷ takes_vector (read_only_of 0xFFC1 0xFFC2) 0x00
+    ∷ takes_vector (read_only_of 0xFFC2 0xFFFF) 0x01
     -- a step with BF clear
-    ∷ leaves (with_bf start_record false) (coded (0x0E ∷ [])) (read_only_of 0x00 0x10000) (0x00 ∷ 0x08 ∷ 0x0C ∷ []) 8 [] 0x0C (0x0E ∷ 0x18 ∷ 0x1C ∷ [])
+    ∷ leaves (with_bf start_record false) (coded (0x0E ∷ [])) (read_only_of 0x00 0x10000) (0x00 ∷ 0x08 ∷ 0x0C ∷ []) 8 [] 0x0C 0x00 (0x0E ∷ 0x18 ∷ 0x1C ∷ [])
     ∷ []
 
 -- ---- what is read before it is written: a dropped write leaves its byte unwritten

@@ -1,4 +1,3 @@
 pub mod Notes
 pub mod Entries
 pub mod Shapes
-pub mod Written

@@ -34,11 +34,10 @@ enum Kind {
 }
 
 // What an address reads after v was written at s, where it read b before: a write that is not stored changes nothing.
-#[tactic(auto, using(crate::proofs::Written::after_write_lem))]
 fn after_write(view: View, s: u16, v: u8, addr: u32, b: u8) -> u8
     ensures { result ≡ after_write (as_shared view) s v addr b }
 {
-    if (addr == u32::from(s)) & view.stores(addr) {
+    if view.stored(addr) & (addr == u32::from(s)) {
         v
     } else {
         b

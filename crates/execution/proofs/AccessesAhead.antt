@@ -1,10 +1,10 @@
 -- The accesses that specs/Code/Shapes.antt computes ahead of a step are those that the step makes.
-use Rattle.std.proofs.Common.{◌≡◌, ℕ, ◌+◌, ◌/◌, ◌%◌, ◌≤◌, Bool, true, false, cond, ◌&&◌, ◌||◌, eqb, List, [], ◌∷◌, ◌++◌, length, refl, ap, ◌∙◌, append-nil, arith, eqb-true}
+use Rattle.std.proofs.Common.{◌≡◌, ℕ, ◌+◌, ◌/◌, ◌%◌, ◌≤◌, Bool, true, false, cond, ◌&&◌, ◌||◌, eqb, List, [], ◌∷◌, ◌++◌, length, refl, ap, ◌∙◌, append-nil, arith}
 use Rattle.arithmetic.specs.declared.record.Lh5801.{Lh5801}
 use Rattle.arithmetic.specs.Record.{with_p, with_s, with_t, with_ir1, with_ir2, with_is_timer_reached}
 use Rattle.arithmetic.specs.Flags.{IE, has_flag}
 use Rattle.pages.specs.declared.Code.{Code}
-use Rattle.pages.specs.Pages.{Pages, at, stored, store, SameLayout}
+use Rattle.pages.specs.Pages.{Pages, at, store, SameLayout}
 use Rattle.pages.specs.Prog.{Prog, done, ◌>>=◌, read, write, Access, read_of, after, exec}
 use Rattle.pages.specs.Stack.{up16, down16, readop_of, readop_word_of, mem16_of, push_of, push_word_of, pop_of, pop_word_of, push_state_of, accept_of}
 use Rattle.pages.specs.Timer.{add_state_of, timer_part_of}
@@ -36,17 +36,11 @@ use Rattle.execution.proofs.Accesses.{step_accesses_lem}
 
 -- a read after a write
 read_after_write : (m : Pages) (s v a : ℕ) → at (store m s v) a ≡ after_write m s v a (at m a)
-read_after_write m s v a = at_store m s v a ∙ go (eqb a s) refl (stored m a) refl
-  where
-    go : (e : Bool) → eqb a s ≡ e → (k : Bool) → stored m a ≡ k → cond (k && e) v (at m a) ≡ cond e (cond (stored m s) v (at m a)) (at m a)
-    go true p true q = rw (← eqb-true a s p, q)
-    go true p false q = rw (← eqb-true a s p, q)
-    go false p true q = refl
-    go false p false q = refl
+read_after_write m s v a = at_store m s v a
 
--- which writes are stored goes by the lengths alone
+-- which writes are stored goes by the layout alone
 after_write_layout : {m n : Pages} → SameLayout m n → (s v a b : ℕ) → after_write n s v a b ≡ after_write m s v a b
-after_write_layout l s v a b = rw (stored_layout l s)
+after_write_layout l s v a b = rw (stored_layout l a)
 
 read_after_push_word : (m : Pages) (s w a : ℕ) → at (store (store m s (w % 256)) (down16 s) (w / 256)) a ≡ after_push_word m s w a (at m a)
 read_after_push_word m s w a =
@@ -60,7 +54,7 @@ read_after_accept : (m : Pages) (s t w a : ℕ)
     ≡ after_push_word m (down16 s) w a (after_write m s t a (at m a))
 read_after_accept m s t w a =
     read_after_push_word (store m s t) (down16 s) w a
-    ∙ rw (stored_layout (store_layout m s t) (down16 s), stored_layout (store_layout m s t) (down16 (down16 s)), read_after_write m s t a)
+    ∙ rw (stored_layout (store_layout m s t) a, read_after_write m s t a)
 
 module _ (m : Lh5801) (pages : Pages) where
   vector_accesses_lem : (nr : ℕ) → (exec (vector_of m nr) pages).accesses ≡ vector_accesses pages m.s m.p nr

@@ -55,7 +55,7 @@ pub bind_accesses : {A B : Type 0} (p : Prog A) (f : A → Prog B) (m : Pages)
     → (exec (p >>= f) m).accesses ≡ (exec p m).accesses ++ (exec (f (exec p m).answer) (exec p m).pages).accesses
 bind_accesses p f m = ap (λ x. x.accesses) (exec_bind p f m)
 
--- a program keeps the lengths
+-- a program keeps the layout
 pub exec_layout : {A : Type 0} (p : Prog A) (m : Pages) → SameLayout m (exec p m).pages
 unfolding exec after
 exec_layout (done a) m = layout_refl m

@@ -1,7 +1,7 @@
 pub mod Pages
-pub mod Protected
 pub mod Exec
 pub mod Agree
+pub mod Protected
 pub mod Does
 pub mod Always
 pub mod AtMost

@@ -1,14 +1,16 @@
--- The read-only part of page 0 (document 02, F-4): which writes it drops, and that it changes nothing else of a program.
-use Rattle.std.proofs.Common.{◌≡◌, ℕ, ◌-◌, ◌<◌, ◌≤◌, ◌↔◌, Bool, true, false, cond, not, ◌&&◌, ltb, leb, List, [], ◌∷◌, ◌++◌, length, set, refl, ap, ◌∙◌, subst, arith, ltb-true, lt-ltb, le-ltb, leb-true, le-leb}
+-- The read-only part of page 0 (document 02, F-4): which writes it drops, and that it changes nothing else.
+use Rattle.std.proofs.Common.{◌≡◌, ℕ, ◌<◌, ◌≤◌, ◌↔◌, Bool, true, false, cond, not, ◌&&◌, T, eqb, ltb, leb, List, [], ◌∷◌, length, sym, refl, ◌∙◌, subst, eqb-true, arith, ltb-true, lt-ltb, le-ltb, leb-true, le-leb}
 use Rattle.std.proofs.lemmas.Bool.{and_parts, not-true}
+use lib.Dec.{eqb_refl}
 use Rattle.arithmetic.specs.declared.record.Lh5801.{Lh5801}
 use Rattle.arithmetic.specs.Record.{with_s}
 use Rattle.pages.specs.declared.ReadOnly.{ReadOnly}
-use Rattle.pages.specs.Pages.{Pages, no_read_only, at, inside, protected, stored, set_byte, store}
-use Rattle.pages.specs.Prog.{Prog, done, get, put, read_of, write_of, ◌>>=◌, write, after, exec}
+use Rattle.pages.specs.Pages.{Pages, no_read_only, at, inside, protected, stored, store}
+use Rattle.pages.specs.Prog.{Access, read_of, write_of, ◌>>=◌, write, after, exec}
 use Rattle.pages.specs.Stack.{down16, push_of}
-use Rattle.pages.specs.Written.{Write, writes, latest, Written}
-use Rattle.pages.proofs.Pages.{store_layout}
+use Rattle.pages.specs.Written.{Write, latest, Written, reads, NotReadBack}
+use Rattle.pages.proofs.Pages.{store_layout, at_store}
+use Rattle.pages.proofs.Agree.{or_left, or_right, Carried}
 
 -- an address is protected exactly where it is one of page 0, not below the first and below the end
 pub protected_iff : (r : ReadOnly) (a : ℕ) → protected r a ≡ true ↔ ((a < 0x10000) × (r.first ≤ a) × (a < r.end))
@@ -55,40 +57,60 @@ pub pushed : (m : Lh5801) (v : ℕ) (p : Pages)
 unfolding exec after push_of write ◌>>=◌
 pushed m v p = refl
 
--- ---- where no write goes into it, nothing is changed by it
+-- ---- where no byte of it is read after a dropped write, it changes nothing but its own bytes
 
--- the same pages with nothing read-only
-abbrev pub freed : Pages → Pages
-freed m = record m { read_only = no_read_only }
+-- pages of equal lengths, of which the second have nothing read-only, that agree wherever the accesses t read; and of the first's part t reads no byte back
+pub record Unread (t : List Access) (m n : Pages) : Type 0 where
+  pub page0 : length m.page0 ≡ length n.page0
+  pub page1 : length m.page1 ≡ length n.page1
+  pub writable : n.read_only ≡ no_read_only
+  pub agree : (a : ℕ) → T (reads a t) → at n a ≡ at m a
+  pub not_back : NotReadBack m.read_only t
 
-abbrev pub NoneProtected : ReadOnly → List Write → Type 0
-NoneProtected r [] = Unit {0}
-NoneProtected r (w ∷ ws) = (protected r w.address ≡ false) × NoneProtected r ws
+unread_read : (m n : Pages) (b v : ℕ) (t : List Access) → Unread (read_of b v ∷ t) m n → Unread t m n
+unfolding reads NotReadBack
+unread_read m n b v t h = record {
+  page0 = h.page0;
+  page1 = h.page1;
+  writable = h.writable;
+  agree = λ a r. h.agree a (or_right (eqb a b) (reads a t) r);
+  not_back = h.not_back;
+}
 
--- the writes of accesses after accesses
-pub none_append : (r : ReadOnly) (xs ys : List Write) → NoneProtected r (xs ++ ys) → NoneProtected r xs × NoneProtected r ys
-none_append r [] ys h = (tt, h)
-none_append r (x ∷ xs) ys h = let n = none_append r xs ys h.1 in ((h.0, n.0), n.1)
+unread_here : (m n : Pages) (b v : ℕ) (t : List Access) → Unread (read_of b v ∷ t) m n → at n b ≡ at m b
+unfolding reads
+unread_here m n b v t h = h.agree b (or_left (eqb b b) (reads b t) (eqb_refl b))
 
-store_freed : (m : Pages) (a v : ℕ) → protected m.read_only a ≡ false → store (freed m) a v ≡ freed (store m a v)
-unfolding store stored inside set_byte
-store_freed m a v h = rw (h, none_protected no_read_only a (omega arith)) (go (ltb a 0x10000) (cond (ltb a 0x10000) (ltb a (length m.page0)) (ltb (a - 0x10000) (length m.page1))))
+-- a write to a byte that is not protected is stored on both sides or on neither
+pub unread_stored : (m n : Pages) (a : ℕ) {t : List Access} → Unread t m n → protected m.read_only a ≡ false → stored n a ≡ stored m a
+unfolding stored inside
+unread_stored m n a h p = rw (p, h.writable, none_protected no_read_only a (omega arith), ← h.page0, ← h.page1)
+
+unread_write : (m n : Pages) (b v : ℕ) (t : List Access) → Unread (write_of b v ∷ t) m n → Unread t (store m b v) (store n b v)
+unfolding reads NotReadBack
+unread_write m n b v t h =
+    let l = store_layout m b v in
+    let k = store_layout n b v in
+    record {
+      page0 = sym l.page0 ∙ h.page0 ∙ k.page0;
+      page1 = sym l.page1 ∙ h.page1 ∙ k.page1;
+      writable = sym k.read_only ∙ h.writable;
+      agree = λ a r. at_store n b v a ∙ same a r (eqb a b) refl (protected m.read_only a) refl ∙ sym (at_store m b v a);
+      not_back = subst (λ (p : ReadOnly). NotReadBack p t) l.read_only h.not_back.1;
+    }
   where
-    put_at : Bool → Pages → Pages
-    put_at t n = cond t (record n { page0 = set n.page0 a v }) (record n { page1 = set n.page1 (a - 0x10000) v })
+    elsewhere : (s : Bool) (x : ℕ) → cond (s && false) v x ≡ x
+    elsewhere true x = refl
+    elsewhere false x = refl
 
-    go : (t i : Bool) → cond (i && not false) (put_at t (freed m)) (freed m) ≡ freed (cond (i && not false) (put_at t m) m)
-    go true true = refl
-    go false true = refl
-    go t false = refl
+    same : (a : ℕ) → T (reads a t) → (e : Bool) → eqb a b ≡ e → (p : Bool) → protected m.read_only a ≡ p
+        → cond (stored n a && e) v (at n a) ≡ cond (stored m a && e) v (at m a)
+    same a r true is true p =
+        let into : T (protected m.read_only b) = subst (λ x. T (protected m.read_only x)) (eqb-true a b is) (rw p tt) in
+        let back : T (reads b t) = subst (λ x. T (reads x t)) (eqb-true a b is) r in
+        absurd (rw (h.not_back.0 into) at back)
+    same a r true is false p = rw (unread_stored m n a h p, h.agree a r) refl
+    same a r false is q p = elsewhere (stored n a) (at n a) ∙ h.agree a r ∙ sym (elsewhere (stored m a) (at m a))
 
--- a program comes to the same answer by the same accesses, and leaves the same bytes, as with nothing read-only
-pub exec_freed : {A : Type 0} (x : Prog A) (m : Pages) → NoneProtected m.read_only (writes (exec x m).accesses)
-    → exec x (freed m) ≡ (let r = exec x m in record r { pages = freed r.pages })
-unfolding exec after writes at
-exec_freed (done a) m h = refl
-exec_freed (get a k) m h = ap (after (read_of a (at m a))) (exec_freed (k (at m a)) m h)
-exec_freed (put a v p) m h =
-    let same : NoneProtected (store m a v).read_only (writes (exec p (store m a v)).accesses) =
-    subst (λ r. NoneProtected r (writes (exec p (store m a v)).accesses)) (store_layout m a v).read_only h.1 in
-    rw (store_freed m a v h.0) (ap (after (write_of a v)) (exec_freed p (store m a v) same))
+pub unread : Carried Unread
+unread = record { same_read = unread_here; then_read = unread_read; then_write = unread_write }

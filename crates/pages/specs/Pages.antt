@@ -23,6 +23,10 @@ no_read_only = read_only_of 0 0
 abbrev pub writable : List ℕ → List ℕ → Pages
 writable l0 l1 = pages l0 l1 no_read_only
 
+-- the same pages with this part read-only
+abbrev pub with_read_only : ReadOnly → Pages → Pages
+with_read_only r m = record m { read_only = r }
+
 -- the byte that an address reads: "an address past the end reads FF"
 unfoldable pub at : Pages → ℕ → ℕ
 at m a = cond (nat_lt a 0x10000) (slice_index_or m.page0 a 0xFF) (slice_index_or m.page1 (a - 0x10000) 0xFF)

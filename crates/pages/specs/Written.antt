@@ -1,6 +1,7 @@
 -- What a list of accesses says of each byte of the pages (document 01, "The runs of demand 3").
 use Rattle.std.specs.Prelude.{◌≡◌, ℕ, Bool, false, cond, not, ◌&&◌, ◌||◌, T, List, [], ◌∷◌, ◌==◌}
-use Rattle.pages.specs.Pages.{Pages, at, inside, stored, SameLayout}
+use Rattle.pages.specs.declared.ReadOnly.{ReadOnly}
+use Rattle.pages.specs.Pages.{Pages, at, inside, protected, stored, SameLayout}
 use Rattle.pages.specs.Prog.{Access, read_of, write_of}
 
 -- a write of the sequence, a dropped one included: its address and its byte
@@ -34,3 +35,15 @@ read_first m a (write_of b v ∷ l) = not (stored m a && a == b) && read_first m
 -- the pages n agree with m at each byte of a lent page that the accesses t read before they have written it
 unfoldable pub Agree : Pages → Pages → List Access → Type 0
 Agree m n t = (a : ℕ) → T (inside m a) → T (read_first m a t) → at n a ≡ at m a
+
+-- the byte at a is read
+unfoldable pub reads : ℕ → List Access → Bool
+reads a [] = false
+reads a (read_of b v ∷ l) = a == b || reads a l
+reads a (write_of b v ∷ l) = reads a l
+
+-- no protected byte is read after a write to it
+unfoldable pub NotReadBack : ReadOnly → List Access → Type 0
+NotReadBack r [] = Unit {0}
+NotReadBack r (read_of b v ∷ l) = NotReadBack r l
+NotReadBack r (write_of b v ∷ l) = (T (protected r b) → reads b l ≡ false) × NotReadBack r l

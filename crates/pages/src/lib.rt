@@ -80,7 +80,7 @@ pub fn word(high: u8, low: u8) -> u16
 impl ReadOnly {
     // Page 1 has no such part, whatever the end is.
     #[tactic(auto, unfolding(crate::specs::Pages::protected))]
-    fn protects(self, addr: u32) -> bool
+    fn protected(self, addr: u32) -> bool
         ensures { result ≡ protected self addr }
     {
         addr < 65536 && self.first <= addr && addr < self.end
@@ -103,7 +103,7 @@ impl View<'_> {
 
     // A lent page has a byte at this address.
     #[tactic(auto, using(crate::proofs::Pages::inside_page0, crate::proofs::Pages::inside_page1))]
-    fn has_byte(self, addr: u32) -> bool
+    fn inside(self, addr: u32) -> bool
         ensures { result ≡ inside (as_shared self) addr }
     {
         if addr < 65536 {
@@ -115,10 +115,10 @@ impl View<'_> {
 
     /// A write at this address is kept.
     #[tactic(auto, unfolding(crate::specs::Pages::stored))]
-    pub fn stores(self, addr: u32) -> bool
+    pub fn stored(self, addr: u32) -> bool
         ensures { result ≡ stored (as_shared self) addr }
     {
-        !self.read_only.protects(addr) && self.has_byte(addr)
+        !self.read_only.protected(addr) && self.inside(addr)
     }
 
     pub fn cpu_readop(self, p: u16) -> Code<u8>
@@ -162,7 +162,7 @@ impl Memory<'_> {
     pub fn write_byte(&mut self, addr: u32, v: u8)
         ensures { Changes (write addr v) self tt }
     {
-        if self.view().stores(addr) {
+        if self.view().stored(addr) {
             if addr < 65536 {
                 put_at(self.page0, addr as usize, v);
             } else {

@@ -92,7 +92,7 @@ same {xs = xs} h t v w =
       list_pages = rw (wrote_flatten xs, h.bus, h.pages) w;
     }
 
--- a smaller limit, and equally long pages
+-- a smaller limit, and pages of the same layout
 pub first_accepted : (l n : ℕ) (inputs : Inputs) {m : Lh5801} {p : Pages} → Accepted (settings inputs (l + n)) m p → 1 ≤ l → Accepted (settings inputs l) m p
 first_accepted l n inputs h i =
     record { page0 = h.page0; page1 = h.page1; timer = h.timer; limit = ⊎_elim (λ e. omega arith) (λ e. omega (arith, limit_most h)) }

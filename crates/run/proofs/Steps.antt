@@ -6,9 +6,8 @@ use Rattle.execution.specs.declared.Inputs.{Inputs}
 use Rattle.pages.specs.Pages.{Pages, SameLayout}
 use Rattle.pages.specs.Prog.{Access, Ran}
 use Rattle.pages.specs.Written.{Written, Agree}
-use Rattle.pages.proofs.Pages.{layout_sym, layout_trans}
-use Rattle.pages.proofs.Exec.{exec_layout, writes_none, writes_append, exec_written, written_none, written_then}
-use Rattle.pages.proofs.Agree.{exec_agree}
+use Rattle.pages.proofs.Exec.{writes_none, writes_append, exec_written, written_none, written_then}
+use Rattle.pages.proofs.Agree.{Carried, exec_alike, agreeing}
 use Rattle.execution.specs.declared.Stop.{Stop}
 use Rattle.execution.specs.Step.{Kind, StepEnd, did, stopped, step_of}
 use Rattle.run.specs.declared.End.{End}
@@ -152,23 +151,24 @@ same_completed : (t : ℕ) (l k : List Access) (x y : CallResult) → k ≡ l �
 unfolding completed
 same_completed t l k x y e h = record { answer = rw h.answer; bus = rw (e, h.bus) }
 
--- on pages that agree where the steps read first, they tell and do the same on the bus
+-- on memories that give each read of the steps the same byte, they tell and do the same on the bus
+pub run_alike : {R : List Access → Pages → Pages → Type 0} → Carried R → (n : ℕ) (inputs : Inputs) (free : Option ℕ) (m : Lh5801) (p q : Pages)
+    → R (accesses_of n inputs free m p) p q
+    → SameButPages (run_of n inputs free m p) (run_of n inputs free m q)
+run_alike {R} c n inputs free m p q h =
+    run_each inputs (λ n free m p o. (q : Pages) → R (accesses_of n inputs free m p) p q → SameButPages o (run_of n inputs free m q))
+    (λ free m p q h. unfold run_of in same_no_step AllSteps m p q)
+    (λ n free m p f q h. rw (run_full inputs free m q n f) (same_no_step LogFull m p q))
+    (λ n free m p s f e q h.
+    let both = exec_alike c (step_of m inputs) p q [] (rw (accesses_stop inputs free m p n f e) at h) in
+    rw (run_stop inputs free m q n f (both.answer ∙ e)) (same_no_step (Step s) m p q))
+    (λ n free m p k t kind f e ih q h.
+    let both = exec_alike c (step_of m inputs) p q _ (rw (accesses_did inputs free m p n f e) at h) in
+    rw (run_did inputs free m q n f (both.answer ∙ e))
+    (same_completed t _ _ _ _ both.accesses (rw both.accesses (ih (one_step inputs m q).pages both.related))))
+    n free m p q h
+
+-- so they do on pages that agree where the steps read first
 pub run_agree : (n : ℕ) (inputs : Inputs) (free : Option ℕ) (m : Lh5801) (p q : Pages) → SameLayout p q → Agree p q (accesses_of n inputs free m p)
     → SameButPages (run_of n inputs free m p) (run_of n inputs free m q)
-run_agree n inputs free m p q l h =
-    run_each inputs
-    (λ n free m p o. (q : Pages) → SameLayout p q → Agree p q (accesses_of n inputs free m p) → SameButPages o (run_of n inputs free m q))
-    (λ free m p q l h. unfold run_of in same_no_step AllSteps m p q)
-    (λ n free m p f q l h. rw (run_full inputs free m q n f) (same_no_step LogFull m p q))
-    (λ n free m p s f e q l h.
-    let both = exec_agree (step_of m inputs) p q [] l (rw (accesses_stop inputs free m p n f e) at h) in
-    rw (run_stop inputs free m q n f (both.answer ∙ e)) (same_no_step (Step s) m p q))
-    (λ n free m p k t kind f e ih q l h.
-    let both = exec_agree (step_of m inputs) p q _ l (rw (accesses_did inputs free m p n f e) at h) in
-    rw (run_did inputs free m q n f (both.answer ∙ e))
-    (same_completed t _ _ _ _ both.accesses
-    (rw both.accesses
-    (ih (one_step inputs m q).pages
-    (layout_trans (layout_sym (exec_layout (step_of m inputs) p)) (layout_trans l (exec_layout (step_of m inputs) q)))
-    both.agree))))
-    n free m p q l h
+run_agree n inputs free m p q l h = run_alike agreeing n inputs free m p q (l, h)

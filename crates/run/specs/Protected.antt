@@ -1,13 +1,16 @@
 -- Steps and calls on pages of which a part is read-only (document 02, F-4): what must come out. proofs/Protected.antt has the theorems over them.
-use Rattle.std.specs.Prelude.{ℕ, true, false, Bool, List, [], ◌∷◌, map, replicate}
+use Rattle.std.specs.Prelude.{ℕ, true, false, Bool, List, [], ◌∷◌, map, replicate, None}
 use Rattle.arithmetic.specs.declared.record.Lh5801.{Lh5801}
 use Rattle.arithmetic.specs.Record.{with_x, with_s, with_bf}
 use Rattle.pages.specs.declared.ReadOnly.{ReadOnly}
-use Rattle.pages.specs.Pages.{Pages, read_only_of, writable, at}
+use Rattle.pages.specs.Pages.{Pages, read_only_of, writable, with_read_only, at}
 use Rattle.pages.specs.Prog.{Access, read_of, write_of, Ran}
 use Rattle.pages.specs.Stack.{word_of}
+use Rattle.pages.specs.Written.{Write, read_first}
 use Rattle.execution.specs.Step.{StepEnd, did, stopped}
-use Rattle.run.specs.AccessOrders.{Seen, seen_of, coded, start_record, interrupted, long, CallCase, wrote}
+use Rattle.execution.specs.Inputs.{of_keyboard}
+use Rattle.run.specs.AccessOrders.{Seen, seen_of, coded, start_record, interrupted, long, wrote}
+use Rattle.run.specs.Run.{writes_of, accesses_of, call_of, settings}
 
 -- what is seen of a step: as in AccessOrders.antt; S and P after it; and what some addresses hold after it
 pub record ProtectedSeen : Type 0 where
@@ -32,10 +35,6 @@ pub record ProtectedCase : Type 0 where
   pub addresses : List ℕ
   pub comes : ProtectedSeen
 
--- pages with this part of page 0 read-only
-abbrev pub with_read_only : ReadOnly → Pages → Pages
-with_read_only r p = record p { read_only = r }
-
 -- record, pages, part and addresses; states, accesses, S, P and bytes
 abbrev pub leaves : Lh5801 → Pages → ReadOnly → List ℕ → ℕ → List Access → ℕ → ℕ → List ℕ → ProtectedCase
 leaves m pages r addresses states l s p bytes = record {
@@ -49,6 +48,12 @@ leaves m pages r addresses states l s p bytes = record {
 abbrev pub psh_pushes : ReadOnly → ℕ → ProtectedCase
 psh_pushes r byte =
     leaves start_record (coded (0xFD ∷ 0xC8 ∷ [])) r (0x0C ∷ []) 11 (read_of 0x00 0xFD ∷ read_of 0x01 0xC8 ∷ write_of 0x0C 0x75 ∷ []) 0x0B 0x02 (byte ∷ [])
+
+-- the same at FFFF, the last byte of a page 0 of 65,536 bytes, which is 00
+abbrev pub psh_pushes_last : ReadOnly → ℕ → ProtectedCase
+psh_pushes_last r byte =
+    leaves (with_s start_record 0xFFFF) (writable (0xFD ∷ 0xC8 ∷ replicate 65_534 0x00) []) r (0xFFFF ∷ []) 11
+    (read_of 0x00 0xFD ∷ read_of 0x01 0xC8 ∷ write_of 0xFFFF 0x75 ∷ []) 0xFFFE 0x02 (byte ∷ [])
 
 -- SJP pushes 0003 at 000C and 000B, where 1C and 1B are
 abbrev pub sjp_pushes : ReadOnly → ℕ → ℕ → ProtectedCase
@@ -91,6 +96,9 @@ protected_cases =
     -- the end at 65,536 and above
     ∷ psh_pushes (read_only_of 0x00 0x10000) 0x1C
     ∷ psh_pushes (read_only_of 0x0C 0xFFFFFFFF) 0x1C
+    ∷ psh_pushes_last (read_only_of 0xFFFF 0x10000) 0x00
+    ∷ psh_pushes_last (read_only_of 0x00 0x1FFFF) 0x00
+    ∷ psh_pushes_last (read_only_of 0x00 0xFFFF) 0x75
     -- one byte of a word that is pushed
     ∷ sjp_pushes (read_only_of 0x0C 0x0D) 0x1C 0x00
     ∷ sjp_pushes (read_only_of 0x0B 0x0C) 0x03 0x1B
@@ -121,46 +129,53 @@ protected_cases =
 -- ---- what is read before it is written: a dropped write leaves its byte unwritten
 
 -- parts, and with each of them whether the entry above reads FFFA first, and FFFB
-pub record FirstCase : Type 0 where
+pub record VectorCase : Type 0 where
   pub read_only : ReadOnly
   pub first : List Bool
 
-abbrev pub reads_first : ReadOnly → Bool → Bool → FirstCase
-reads_first r high low = record { read_only = r; first = high ∷ low ∷ [] }
+abbrev pub vector_of_part : ReadOnly → Bool → Bool → VectorCase
+vector_of_part r high low = record { read_only = r; first = high ∷ low ∷ [] }
 
-unfoldable pub first_cases : List FirstCase
-first_cases =
-    reads_first (read_only_of 0 0) false false
-    ∷ reads_first (read_only_of 0xFFFA 0xFFFC) true true
-    ∷ reads_first (read_only_of 0xFFFA 0xFFFB) true false
-    ∷ reads_first (read_only_of 0xFFFB 0xFFFC) false true
-    ∷ reads_first (read_only_of 0xFFFC 0xFFFF) false false
-    ∷ reads_first (read_only_of 0x00 0x20000) true true
+unfoldable pub vector_cases : List VectorCase
+vector_cases =
+    vector_of_part (read_only_of 0 0) false false
+    ∷ vector_of_part (read_only_of 0xFFFA 0xFFFC) true true
+    ∷ vector_of_part (read_only_of 0xFFFA 0xFFFB) true false
+    ∷ vector_of_part (read_only_of 0xFFFB 0xFFFC) false true
+    ∷ vector_of_part (read_only_of 0xFFFC 0xFFFF) false false
+    ∷ vector_of_part (read_only_of 0x00 0x20000) true true
     ∷ []
 
--- STA at 0008 and then LDA from there; and both on page 1
-abbrev pub sta_and_lda : ReadOnly → Pages
-sta_and_lda r = with_read_only r (coded (0x0E ∷ 0x05 ∷ []))
+-- STA at an address and then LDA from there: what a call of two steps writes, its accesses, and whether the address is read first
+pub record Loaded : Type 0 where
+  pub wrote : List Write
+  pub accesses : List Access
+  pub first : Bool
 
-abbrev pub sta_and_lda_on_1 : ReadOnly → Pages
-sta_and_lda_on_1 r = with_read_only r (coded (0xFD ∷ 0x0E ∷ 0xFD ∷ 0x05 ∷ []))
-
--- two steps of the first: the write is in the sequence, dropped or not. With this part, what LDA reads, and whether 0008 is read first
-abbrev pub loads : ReadOnly → ℕ → Bool → CallCase
-loads r byte first = record {
-  limit = 2;
-  cpu = start_record;
-  pages = sta_and_lda r;
-  comes = record {
-    number = 0;
-    byte = 0;
-    steps = 2;
-    states = 12;
-    wrote = wrote 0x08 0x75;
-    accesses = read_of 0x00 0x0E ∷ write_of 0x08 0x75 ∷ read_of 0x01 0x05 ∷ read_of 0x08 byte ∷ [];
-    first = true ∷ true ∷ false ∷ first ∷ [];
-  };
+abbrev pub loaded : ℕ → Pages → Loaded
+loaded a p = record {
+  wrote = writes_of (call_of (settings (of_keyboard 0) 2) None start_record p);
+  accesses = accesses_of 2 (of_keyboard 0) None start_record p;
+  first = read_first p a (accesses_of 2 (of_keyboard 0) None start_record p);
 }
 
-unfoldable pub lda_calls : List CallCase
-lda_calls = loads (read_only_of 0x08 0x09) 0x18 true ∷ loads (read_only_of 0x00 0x08) 0x75 false ∷ loads (read_only_of 0x00 0x20000) 0x18 true ∷ []
+-- at 0008, and with this part: the write is in the sequence, dropped or not; what LDA reads, and whether 0008 is read first
+pub record LoadCase : Type 0 where
+  pub read_only : ReadOnly
+  pub comes : Loaded
+
+abbrev pub loads : ReadOnly → ℕ → Bool → LoadCase
+loads r byte first = record {
+  read_only = r;
+  comes = record { wrote = wrote 0x08 0x75; accesses = read_of 0x00 0x0E ∷ write_of 0x08 0x75 ∷ read_of 0x01 0x05 ∷ read_of 0x08 byte ∷ []; first = first };
+}
+
+unfoldable pub load_cases : List LoadCase
+load_cases = loads (read_only_of 0x08 0x09) 0x18 true ∷ loads (read_only_of 0x00 0x08) 0x75 false ∷ loads (read_only_of 0x00 0x20000) 0x18 true ∷ []
+
+abbrev pub sta_and_lda : Pages
+sta_and_lda = coded (0x0E ∷ 0x05 ∷ [])
+
+-- and at 10008, which is in the range and not in the part
+abbrev pub sta_and_lda_on_1 : Pages
+sta_and_lda_on_1 = with_read_only (read_only_of 0x00 0x20000) (coded (0xFD ∷ 0x0E ∷ 0xFD ∷ 0x05 ∷ []))

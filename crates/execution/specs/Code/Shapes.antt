@@ -44,7 +44,7 @@ push_word_accesses s w = write_of s (w % 256) ∷ write_of (down16 s) (w / 256) 
 
 -- what the address a reads after v was written at s, where it read b before: a write that is not stored changes nothing
 abbrev pub after_write : Pages → ℕ → ℕ → ℕ → ℕ → ℕ
-after_write pages s v a b = cond (a == s) (cond (stored pages s) v b) b
+after_write pages s v a b = cond (stored pages a && a == s) v b
 
 -- what it reads after the word w was pushed, where S was s
 abbrev pub after_push_word : Pages → ℕ → ℕ → ℕ → ℕ → ℕ

@@ -37,7 +37,7 @@ enum Kind {
 fn after_write(view: View, s: u16, v: u8, addr: u32, b: u8) -> u8
     ensures { result ≡ after_write (as_shared view) s v addr b }
 {
-    if view.stored(addr) && addr == u32::from(s) {
+    if addr == u32::from(s) && view.stored(addr) {
         v
     } else {
         b

@@ -8,7 +8,7 @@ use Rattle.pages.specs.declared.ReadOnly.{ReadOnly}
 use Rattle.pages.specs.Pages.{Pages, no_read_only, at, inside, protected, stored, store}
 use Rattle.pages.specs.Prog.{Access, read_of, write_of, ◌>>=◌, write, after, exec}
 use Rattle.pages.specs.Stack.{down16, push_of}
-use Rattle.pages.specs.Written.{Write, latest, Written, reads, NotReadBack}
+use Rattle.pages.specs.Written.{Write, latest, Written, is_read, NotReadBack}
 use Rattle.pages.proofs.Pages.{store_layout, at_store}
 use Rattle.pages.proofs.Agree.{or_left, or_right, Carried}
 
@@ -63,38 +63,38 @@ pushed m v p = refl
 pub record Unread (t : List Access) (m n : Pages) : Type 0 where
   pub page0 : length m.page0 ≡ length n.page0
   pub page1 : length m.page1 ≡ length n.page1
-  pub writable : n.read_only ≡ no_read_only
-  pub agree : (a : ℕ) → T (reads a t) → at n a ≡ at m a
+  pub none : n.read_only ≡ no_read_only
+  pub agree : (a : ℕ) → T (is_read a t) → at n a ≡ at m a
   pub not_back : NotReadBack m.read_only t
 
 unread_read : (m n : Pages) (b v : ℕ) (t : List Access) → Unread (read_of b v ∷ t) m n → Unread t m n
-unfolding reads NotReadBack
+unfolding is_read NotReadBack
 unread_read m n b v t h = record {
   page0 = h.page0;
   page1 = h.page1;
-  writable = h.writable;
-  agree = λ a r. h.agree a (or_right (eqb a b) (reads a t) r);
+  none = h.none;
+  agree = λ a r. h.agree a (or_right (eqb a b) (is_read a t) r);
   not_back = h.not_back;
 }
 
 unread_here : (m n : Pages) (b v : ℕ) (t : List Access) → Unread (read_of b v ∷ t) m n → at n b ≡ at m b
-unfolding reads
-unread_here m n b v t h = h.agree b (or_left (eqb b b) (reads b t) (eqb_refl b))
+unfolding is_read
+unread_here m n b v t h = h.agree b (or_left (eqb b b) (is_read b t) (eqb_refl b))
 
 -- a write to a byte that is not protected is stored on both sides or on neither
 pub unread_stored : (m n : Pages) (a : ℕ) {t : List Access} → Unread t m n → protected m.read_only a ≡ false → stored n a ≡ stored m a
 unfolding stored inside
-unread_stored m n a h p = rw (p, h.writable, none_protected no_read_only a (omega arith), ← h.page0, ← h.page1)
+unread_stored m n a h p = rw (p, h.none, none_protected no_read_only a (omega arith), ← h.page0, ← h.page1)
 
 unread_write : (m n : Pages) (b v : ℕ) (t : List Access) → Unread (write_of b v ∷ t) m n → Unread t (store m b v) (store n b v)
-unfolding reads NotReadBack
+unfolding is_read NotReadBack
 unread_write m n b v t h =
     let l = store_layout m b v in
     let k = store_layout n b v in
     record {
       page0 = sym l.page0 ∙ h.page0 ∙ k.page0;
       page1 = sym l.page1 ∙ h.page1 ∙ k.page1;
-      writable = sym k.read_only ∙ h.writable;
+      none = sym k.read_only ∙ h.none;
       agree = λ a r. at_store n b v a ∙ same a r (eqb a b) refl (protected m.read_only a) refl ∙ sym (at_store m b v a);
       not_back = subst (λ (p : ReadOnly). NotReadBack p t) l.read_only h.not_back.1;
     }
@@ -103,11 +103,11 @@ unread_write m n b v t h =
     elsewhere true x = refl
     elsewhere false x = refl
 
-    same : (a : ℕ) → T (reads a t) → (e : Bool) → eqb a b ≡ e → (p : Bool) → protected m.read_only a ≡ p
+    same : (a : ℕ) → T (is_read a t) → (e : Bool) → eqb a b ≡ e → (p : Bool) → protected m.read_only a ≡ p
         → cond (stored n a && e) v (at n a) ≡ cond (stored m a && e) v (at m a)
     same a r true is true p =
         let into : T (protected m.read_only b) = subst (λ x. T (protected m.read_only x)) (eqb-true a b is) (rw p tt) in
-        let back : T (reads b t) = subst (λ x. T (reads x t)) (eqb-true a b is) r in
+        let back : T (is_read b t) = subst (λ x. T (is_read x t)) (eqb-true a b is) r in
         absurd (rw (h.not_back.0 into) at back)
     same a r true is false p = rw (unread_stored m n a h p, h.agree a r) refl
     same a r false is q p = elsewhere (stored n a) (at n a) ∙ h.agree a r ∙ sym (elsewhere (stored m a) (at m a))

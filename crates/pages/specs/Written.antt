@@ -37,13 +37,13 @@ unfoldable pub Agree : Pages → Pages → List Access → Type 0
 Agree m n t = (a : ℕ) → T (inside m a) → T (read_first m a t) → at n a ≡ at m a
 
 -- the byte at a is read
-unfoldable pub reads : ℕ → List Access → Bool
-reads a [] = false
-reads a (read_of b v ∷ l) = a == b || reads a l
-reads a (write_of b v ∷ l) = reads a l
+unfoldable pub is_read : ℕ → List Access → Bool
+is_read a [] = false
+is_read a (read_of b v ∷ l) = a == b || is_read a l
+is_read a (write_of b v ∷ l) = is_read a l
 
 -- no protected byte is read after a write to it
 unfoldable pub NotReadBack : ReadOnly → List Access → Type 0
 NotReadBack r [] = Unit {0}
 NotReadBack r (read_of b v ∷ l) = NotReadBack r l
-NotReadBack r (write_of b v ∷ l) = (T (protected r b) → reads b l ≡ false) × NotReadBack r l
+NotReadBack r (write_of b v ∷ l) = (T (protected r b) → is_read b l ≡ false) × NotReadBack r l

@@ -9,7 +9,7 @@ use Rattle.run.specs.declared.Settings.{Settings}
 use Rattle.run.specs.declared.End.{End}
 use Rattle.run.specs.Acceptance.{not_accepted}
 use Rattle.run.specs.AccessOrders.{interrupted, long, vector_first}
-use Rattle.run.specs.Protected.{protected_seen, ProtectedCase, protected_cases, VectorCase, vector_cases, loaded, LoadCase, load_cases, sta_and_lda, sta_and_lda_on_1}
+use Rattle.run.specs.Protected.{protected_seen, ProtectedCase, protected_cases, VectorCase, vector_cases, load_seen, LoadCase, load_cases, sta_and_lda, sta_and_lda_on_1}
 use Rattle.run.specs.Run.{CallResult, no_step, completed, onward, run_of, accesses_after, accesses_of, call_unless, call_of}
 use Rattle.run.proofs.AccessOrders.{stepped, pressed}
 use Rattle.run.proofs.Steps.{SameButPages, run_alike}
@@ -38,7 +38,7 @@ call_unread s free m p h = record { answer = same.answer; bus = same.bus; bytes 
     q = with_read_only no_read_only p
 
     apart : Unread (accesses_of s.limit s.inputs free m p) p q
-    apart = record { page0 = refl; page1 = refl; writable = refl; agree = λ a r. refl; not_back = h }
+    apart = record { page0 = refl; page1 = refl; none = refl; agree = λ a r. refl; not_back = h }
 
     go : (e : Option End) → SameButPages (call_unless e s free m p) (call_unless e s free m q)
     go (Some e) = record { answer = refl; bus = refl }
@@ -63,11 +63,11 @@ pub vector_cases_hold :
 unfolding vector_cases read_first stepped at inside protected stored set_byte store
 vector_cases_hold = refl
 
-pub load_cases_hold : map (λ (c : LoadCase). loaded 0x08 (with_read_only c.read_only sta_and_lda)) load_cases ≡ map (λ (c : LoadCase). c.comes) load_cases
+pub load_cases_hold : map (λ (c : LoadCase). load_seen 0x08 (with_read_only c.read_only sta_and_lda)) load_cases ≡ map (λ (c : LoadCase). c.comes) load_cases
 unfolding load_cases read_first writes not_accepted no_step completed onward run_of accesses_of accesses_after call_unless call_of stepped at inside protected stored set_byte store
 load_cases_hold = refl
 
 -- on page 1 the byte is stored, and so it is not read first
-pub page_1_not_first : (loaded 0x10008 sta_and_lda_on_1).first ≡ false
+pub page_1_not_first : (load_seen 0x10008 sta_and_lda_on_1).first ≡ false
 unfolding read_first accesses_of accesses_after stepped at inside protected stored set_byte store
 page_1_not_first = refl

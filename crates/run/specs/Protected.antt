@@ -147,13 +147,13 @@ vector_cases =
     ∷ []
 
 -- STA at an address and then LDA from there: what a call of two steps writes, its accesses, and whether the address is read first
-pub record Loaded : Type 0 where
+pub record LoadSeen : Type 0 where
   pub wrote : List Write
   pub accesses : List Access
   pub first : Bool
 
-abbrev pub loaded : ℕ → Pages → Loaded
-loaded a p = record {
+abbrev pub load_seen : ℕ → Pages → LoadSeen
+load_seen a p = record {
   wrote = writes_of (call_of (settings (of_keyboard 0) 2) None start_record p);
   accesses = accesses_of 2 (of_keyboard 0) None start_record p;
   first = read_first p a (accesses_of 2 (of_keyboard 0) None start_record p);
@@ -162,7 +162,7 @@ loaded a p = record {
 -- at 0008, and with this part: the write is in the sequence, dropped or not; what LDA reads, and whether 0008 is read first
 pub record LoadCase : Type 0 where
   pub read_only : ReadOnly
-  pub comes : Loaded
+  pub comes : LoadSeen
 
 abbrev pub loads : ReadOnly → ℕ → Bool → LoadCase
 loads r byte first = record {

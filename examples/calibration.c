@@ -45,5 +45,7 @@ int main(void)
     for (i = 0x000A; i < sizeof page0; i++)
         printf("%02X%c", page0[i], i + 1 < sizeof page0 ? ' ' : '\n');
     print_line(words);
-    return memcmp(page0 + 0x000C, calibration, sizeof calibration) == 0 && page0[0x000A] == 0x75 ? 0 : 1;
+    return memcmp(page0 + 0x000C, calibration, sizeof calibration) == 0 && page0[0x000A] == 0x75
+               ? 0
+               : 1;
 }

@@ -1,5 +1,5 @@
 -- The laws of the two pages as one memory.
-use Rattle.std.proofs.Common.{◌≡◌, ℕ, zero, suc, ◌-◌, ◌<◌, ◌≤◌, Bool, true, false, cond, not, ◌&&◌, eqb, ltb, List, [], ◌∷◌, length, get_or, set, sym, refl, ap, ◌∙◌, le_of_suc-le-suc, not-suc-le-zero, arith, length-set, get_or-set_other, get_or-set_same, ltb-false, ltb-true, le-ltb, lt-ltb, eqb-true}
+use Rattle.std.proofs.Common.{◌≡◌, ℕ, ◌-◌, ◌<◌, ◌≤◌, Bool, true, false, cond, not, ◌&&◌, eqb, ltb, length, get_or, set, sym, refl, ap, ◌∙◌, arith, length-set, get_or-set_other, get_or-set_same, ltb-false, ltb-true, le-ltb, lt-ltb, eqb-true}
 use Rattle.std.proofs.lemmas.Bool.{and_parts}
 use lib.ListN.{get_or-eq_default}
 use borrow.Author.Tests.{eqb-false}
@@ -134,9 +134,3 @@ set_page0 m a v h = rw (lt-ltb a 0x10000 h)
 pub set_page1 : (m : Pages) (a v : ℕ) → 0x10000 ≤ a → set_byte m a v ≡ record m { page1 = set m.page1 (a - 0x10000) v }
 unfolding set_byte
 set_page1 m a v h = rw (le-ltb a 0x10000 h)
-
--- inside a list, the element does not depend on what is read past its end
-pub get_d_any : (l : List ℕ) (i d e : ℕ) → i < length l → get_or l i d ≡ get_or l i e
-get_d_any [] i d e h = absurd (not-suc-le-zero h)
-get_d_any (x ∷ l) zero d e h = refl
-get_d_any (x ∷ l) (suc i) d e h = get_d_any l i d e (le_of_suc-le-suc h)

@@ -127,7 +127,13 @@ item_in = do
   second_sum ← number 8
   given (record {
     file = file;
-    lent = record { len0 = len0; len1 = len1; rule = record { first = slice_index bytes 1; step = slice_index bytes 2 }; read_only = read_only_of read_only_first read_only_end; log = log_in used };
+    lent = record {
+      len0 = len0;
+      len1 = len1;
+      rule = record { first = slice_index bytes 1; step = slice_index bytes 2 };
+      read_only = read_only_of read_only_first read_only_end;
+      log = log_in used;
+    };
     sets = sets;
     want = line;
     want_sums = record { first = first_sum; second = second_sum };

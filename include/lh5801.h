@@ -3,7 +3,7 @@
  * comparison of its bus log with an analyser's list.
  *
  * "Document 01" is the requirement that the unit is proved against; the numbers below are its own.
- * "F-1" to "F-4" are requests of document 02, which came after it.
+ * "F-1" to "F-5" are requests of document 02, which came after it.
  * `rt lib` in crates/lh5801 writes crates/lh5801/out/liblh5801.a for x86-64.
  * Usable from C (C99 and later) and C++.
  *
@@ -34,7 +34,7 @@
  *        10  LH5801_PREVIOUS   timer states at the timer's last shift, or where CDV (FD 8E) set it
  *                              since, 64 bits
  *        11  LH5801_TICKS      ticks, 64 bits
- *        12  LH5801_NUMBER     why the call ended, 0 to 7 or 11
+ *        12  LH5801_NUMBER     why the call ended, 0 to 7, 11 or 12
  *        13  LH5801_BYTE       the unlisted byte where the number is 5 or 6, else 0
  *        14  LH5801_STEPS      completed steps
  *        15  LH5801_STATES     the sum of their states
@@ -81,6 +81,15 @@
  *              its own pushes too. With the end at or below the first nothing is read-only. Both
  *              may be 65,536 or more; page 1 has no such part, whatever they are.
  *
+ *   stop_given, stop_address
+ *              F-5, a stop address, where stop_given is not 0. A call ends with 12 before the
+ *              instruction at this address: that instruction is due, P is the address, and its opcode
+ *              is not read. It is looked for before every step, the call's first too, so a run may be
+ *              cut anywhere, and a call that begins there ends there with no step done. An accepted
+ *              interrupt is entered first. What is no instruction does not stop: a halted step waits
+ *              or stops with 7, and with BF clear or IR0 set a step is done as ever, whatever P is. To
+ *              go on from the address, do one step without it.
+ *
  * A setting of zero asks for nothing: a struct with its limit and keyboard byte set and zeros
  * elsewhere gives what lh5801_run gives. lh5801_run_with changes nothing in the struct but log_used.
  * A list of length 0 that is not null is a log, and it is full.
@@ -108,16 +117,17 @@
  *           beyond it; whatever the step would have been
  *     7     after interrupts: BF is set, the unit is halted, IR0 is clear, no interrupt is accepted,
  *           and the idle figure is 0
+ *     12    an instruction is due (BF is set, IR0 is clear, no interrupt is accepted, not halted), a
+ *           stop address is given, and P is that address
  *     5     the opcode read is unlisted
  *     6     the byte after FD is unlisted
  *   and
  *     0     all the steps asked for were done
  *
  * With 1 to 4 the record comes back as given (each word taken as above), steps and states are 0, and
- * the pages, the log and its used count are untouched. With 5, 6, 7 and 11 the record and the pages
- * are as they were before the step that stopped, and steps, states and the log are those of the
- * completed steps. FD 00 stops with 6 and
- * the byte 0, so a byte of 0 does not mean that there was none.
+ * the pages, the log and its used count are untouched. With 5, 6, 7, 11 and 12 the record and the
+ * pages are as they were before the step that stopped, and steps, states and the log are those of the
+ * completed steps. FD 00 stops with 6 and the byte 0, so a byte of 0 does not mean that there was none.
  *
  * The library has no global data, allocates nothing, calls nothing outside itself and keeps nothing
  * between calls. Calls on different words and pages may run at the same time on different threads.
@@ -202,7 +212,8 @@ enum {
     LH5801_UNLISTED = 5,
     LH5801_UNLISTED_AFTER_FD = 6,
     LH5801_STOPPED_HALTED = 7,
-    LH5801_LOG_FULL = 11
+    LH5801_LOG_FULL = 11,
+    LH5801_AT_STOP_ADDRESS = 12
 };
 
 /* Of an entry of the log: the bit of a write, and how many free entries a step asks for. */
@@ -229,17 +240,20 @@ struct lh5801_settings {
     size_t log_used;
     uint32_t read_only_first;
     uint32_t read_only_end;
+    uint8_t stop_given;
+    uint16_t stop_address;
 };
 
 /*
  * The run call, with a parameter for each setting. `logged` says whether `log` is lent; if not, pass
- * the length 0 and any aligned pointer that is not null, and the list is not touched. The used count
- * after the call is returned: as given, where there is no log.
+ * the length 0 and any aligned pointer that is not null, and the list is not touched. `stop_given` says
+ * whether there is a stop address; if not, `stop_address` is not looked at. The used count after the
+ * call is returned: as given, where there is no log.
  */
 size_t lh5801_call(uint64_t words[16], uint8_t *page0, size_t length0, uint8_t *page1,
                    size_t length1, uint32_t limit, uint8_t keyboard, uint8_t idle, bool logged,
                    uint32_t *log, size_t log_length, size_t log_used, uint32_t read_only_first,
-                   uint32_t read_only_end);
+                   uint32_t read_only_end, bool stop_given, uint16_t stop_address);
 
 /*
  * Runs the unit for at most `settings->limit` steps from the record in `words`, over the two pages,
@@ -256,7 +270,8 @@ static inline void lh5801_run_with(uint64_t words[16], uint8_t *page0, size_t le
         lh5801_call(words, page0, length0, page1, length1, settings->limit, settings->keyboard,
                     settings->idle, logged, logged ? settings->log : &none,
                     logged ? settings->log_length : 0, settings->log_used,
-                    settings->read_only_first, settings->read_only_end);
+                    settings->read_only_first, settings->read_only_end,
+                    settings->stop_given != 0, settings->stop_address);
 }
 
 /*
@@ -268,8 +283,8 @@ static inline void lh5801_run(uint64_t words[16], uint8_t *page0, size_t length0
 {
     uint32_t none = 0;
 
-    lh5801_call(words, page0, length0, page1, length1, limit, keyboard, 0, false, &none, 0, 0, 0,
-                0);
+    lh5801_call(words, page0, length0, page1, length1, limit, keyboard, 0, false, &none, 0, 0, 0, 0,
+                false, 0);
 }
 
 /* What lh5801_compare says; see "The comparison" above. */

@@ -112,7 +112,7 @@ most_interrupt m vector = most_then 5 2 _ _ (most_accept m vector) (λ k. tt)
 
 most_powered : (m : Lh5801) (inputs : Inputs) → AtMost 7 (powered_of m inputs)
 most_powered m inputs =
-    powered_ways (AtMost 7) m inputs tt (most_interrupt (with_ir1 m false) 0xFFFA) (most_interrupt (with_ir2 m false) 0xFFF8) tt tt
+    powered_ways (AtMost 7) m inputs tt (most_interrupt (with_ir1 m false) 0xFFFA) (most_interrupt (with_ir2 m false) 0xFFF8) tt tt tt
     (most_instruction m inputs)
 
 -- a step makes at most seven accesses

@@ -1,10 +1,12 @@
--- The test for an instruction is document 01's condition.
+-- The test for an instruction is document 01's condition, and the one for a stop before it document 02's.
 use Rattle.std.proofs.Common.{◌≡◌, Bool, true, false, not, ◌&&◌, ◌||◌, ◌↔◌, refl, true≢false}
 use mathlib.Core.Bool.{false≢true}
 use Rattle.arithmetic.specs.declared.record.Lh5801.{Lh5801}
 use Rattle.arithmetic.specs.Flags.{IE, has_flag}
-use Rattle.execution.specs.Conditions.{Due}
-use Rattle.execution.specs.Code.Due.{due_of}
+use Rattle.execution.specs.declared.Inputs.{Inputs}
+use Rattle.execution.specs.Conditions.{Due, AddressStop}
+use Rattle.execution.specs.Code.Due.{due_of, stops_before_of}
+use Rattle.execution.proofs.StopAddress.{stops_at_is}
 
 -- the four parts of `Due`, with `l` for the lines of which one requests
 abbrev Parts : Bool → Bool → Bool → Bool → Bool → Type 0
@@ -28,6 +30,10 @@ due_by_lem true false true true false b z n g = absurd (true≢false n)
 due_by_lem true false true false false b z n g = refl
 due_by_lem true false false e false b z n g = refl
 
+both_true : (a b : Bool) → a && b ≡ true → (a ≡ true) × (b ≡ true)
+both_true true b e = (refl, e)
+both_true false b e = absurd (false≢true e)
+
 module _ (m : Lh5801) where
   due_holds : due_of m ≡ true → Due m
   due_holds t =
@@ -40,6 +46,14 @@ module _ (m : Lh5801) where
     due_holds,
     λ d. due_by_lem m.bf m.ir0 (m.ir1 || m.is_timer_reached || m.ir2) (has_flag m.t IE) m.is_halted d.on d.free d.none d.running,
   )
+
+  -- the test before it passes exactly where the step stops with 12
+  pub stops_before_is : (inputs : Inputs) → (stops_before_of m inputs ≡ true) ↔ AddressStop inputs m
+  stops_before_is inputs =
+      let at = stops_at_is inputs m.p in (
+        λ t. record { due = due_is.0 (both_true _ _ t).1; address = at.0 (both_true _ _ t).0 },
+        λ s. rw (at.1 s.address) (due_is.1 s.due),
+      )
 
   -- and then BF is set
   pub due_on : due_of m ≡ true → m.bf ≡ true

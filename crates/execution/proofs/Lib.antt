@@ -5,6 +5,7 @@ pub mod Choices
 pub mod Effects
 pub mod Ways
 pub mod DueTest
+pub mod StopAddress
 pub mod DueAgain
 pub mod StepKeeps
 pub mod OpcodeRead

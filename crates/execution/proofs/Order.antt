@@ -31,8 +31,10 @@ use Rattle.execution.specs.Code.Outcomes.{outcome_of}
 use Rattle.execution.specs.Code.Due.{due_by, due_of, Ready, settled_of, settled_by, executed_of}
 use Rattle.execution.proofs.Effects.{due_in}
 use Rattle.execution.proofs.Choices.{cond_both, cond_true, cond_false}
-use Rattle.execution.proofs.Tests.{reached_same, none_accepted, unheld, halting_step, halted_stops, halted_waits}
+use Rattle.execution.specs.Inputs.{stops_at}
+use Rattle.execution.proofs.Tests.{reached_same, none_accepted, halting_step, fetching_step, halted_stops, halted_waits}
 use Rattle.execution.proofs.DueTest.{due_is}
+use Rattle.execution.proofs.StopAddress.{elsewhere_is}
 
 -- how LOP ends, by what its count gave
 abbrev LoopEnd : Lh5801 → ℕ → ℕ → Lh5801 → Looped → Type 0
@@ -104,12 +106,10 @@ module _ (m : Lh5801) (inputs : Inputs) (on : m.bf ≡ true) (clear : m.is_timer
           rw (step_halting, halted_waits m inputs z)
           (does_mapped outcome_of {r = did r inputs.idle waiting} (does_done (ap (λ (x : Lh5801). did x inputs.idle waiting) f)))
 
--- where an instruction is due, the step is that instruction's
-step_due : (m : Lh5801) (inputs : Inputs) → Ready m → step_of m inputs ≡ instruction_of m inputs
-step_due m inputs h =
-    let d = (due_is m).0 h.due in
-    unheld m inputs d.on d.free d.none
-    ∙ cond_false _ _ _ d.running
+-- where an instruction is due and P is not the stop address, the step is that instruction's
+step_due : (m : Lh5801) (inputs : Inputs) → Ready m → stops_at inputs m.p ≡ false → step_of m inputs ≡ instruction_of m inputs
+step_due m inputs h e =
+    fetching_step m inputs (record { due = (due_is m).0 h.due; elsewhere = (elsewhere_is inputs m.p).0 e })
     ∙ ap (λ (k : Lh5801). instruction_of k inputs) (reached_stays m h.clear)
 
 -- timer reached moved to IR1: the same step, and an instruction is due or not as before
@@ -151,8 +151,8 @@ module _ (m : Lh5801) where
   step_reached inputs on =
       step_powered (reached_of m) inputs (reached_bf ∙ on) reached_clear ∙ sym (cond_true _ _ _ on)
 
--- where an instruction is due, by what its byte decodes to
-module _ (m : Lh5801) (inputs : Inputs) (ready : Ready m) where
+-- where an instruction is due and P is not the stop address, by what its byte decodes to
+module _ (m : Lh5801) (inputs : Inputs) (ready : Ready m) (elsewhere : stops_at inputs m.p ≡ false) where
   -- listed: whether it is settled, and whether timer reached is set then, tell whether an instruction is due again
   pub instruction_listed : {o : Code Opcode} {l p q : Memory} {i : Instruction} {n : ℕ} {k now r : Lh5801} {b t : Bool}
       → Does (fetch_of m.p) l o p
@@ -165,7 +165,7 @@ module _ (m : Lh5801) (inputs : Inputs) (ready : Ready m) where
       → Does (mapped executed_of (step_of m inputs)) l (Ok (cond (b && not t) (Again r) (Completed r))) q
   unfolding instruction_of decoded_step_of
   instruction_listed {o = o} {i = i} {n = n} {r = r} f e x y z s h =
-      rw (step_due m inputs ready, ← (ap settled_by e ∙ s), ← h)
+      rw (step_due m inputs ready elsewhere, ← (ap settled_by e ∙ s), ← h)
       (does_mapped executed_of {r = did r (n + added_of m i) (instruction o.value)}
       (does_then _ f (rw e (does_then _ x (does_done (ap (λ (k : Lh5801). did k (n + added_of m i) (instruction o.value)) (z ∙ ap timer_part_of y)))))))
 
@@ -176,7 +176,7 @@ module _ (m : Lh5801) (inputs : Inputs) (ready : Ready m) where
       → Does (mapped executed_of (step_of m inputs)) l (Err s) p
   unfolding instruction_of decoded_step_of
   instruction_unlisted {s = s} f e t =
-      rw (step_due m inputs ready) (does_mapped executed_of {r = stopped s} (does_then _ f (rw e (does_done (ap stopped t)))))
+      rw (step_due m inputs ready elsewhere) (does_mapped executed_of {r = stopped s} (does_then _ f (rw e (does_done (ap stopped t)))))
 
 -- the same without the word that an instruction is due again
 abbrev record_in : Executed → Lh5801

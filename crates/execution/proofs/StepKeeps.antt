@@ -82,6 +82,7 @@ module _ (m : Lh5801) (inputs : Inputs) where
       (counted_interrupt (with_ir2 k false) (times_then s (times_ir2 k false)) 0xFFF8)
       tt
       (counted_timer _ inputs.idle (rw add-zero at (counted_states k inputs.idle 0 (counted_same k s))))
+      tt
       (counted_instruction k s)
 
   counted_step : Always (CountedEnd m) (step_of m inputs)

@@ -61,6 +61,7 @@ fits_powered m inputs =
     (fits_interrupt inputs (with_ir2 m false) 0xFFF8)
     tt
     (omega arith, omega arith)
+    tt
     (fits_instruction m inputs)
 
 fits_step : (m : Lh5801) (inputs : Inputs) → Always (Fits inputs) (step_of m inputs)

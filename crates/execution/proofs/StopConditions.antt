@@ -1,5 +1,5 @@
--- A step stops with 7, 5 or 6 under document 01's condition for it and no other.
-use Rattle.std.proofs.Common.{◌≡◌, ℕ, Bool, true, false, eqb, ◌↔◌, sym, refl, ap, ◌∙◌, subst, true≢false, eq-eqb, ne_eqb, eqb-true}
+-- A step stops with 7, 12, 5 or 6 under the condition of documents 01 and 02 for it and no other.
+use Rattle.std.proofs.Common.{◌≡◌, ℕ, Bool, true, false, eqb, ◌↔◌, [], sym, refl, ap, ◌∙◌, subst, true≢false, eq-eqb, ne_eqb, eqb-true}
 use native.Mathlib.Decide.{ℕ_discrete}
 use borrow.Author.Tests.{eqb-false}
 use Rattle.arithmetic.specs.declared.record.Lh5801.{Lh5801}
@@ -9,7 +9,7 @@ use Rattle.pages.specs.Prog.{exec}
 use Rattle.pages.specs.Stack.{up16}
 use Rattle.pages.specs.Timer.{add_state_of, timer_part_of}
 use Rattle.pages.proofs.Always.{always_exec}
-use Rattle.pages.proofs.Exec.{done_answer}
+use Rattle.pages.proofs.Exec.{done_answer, done_none}
 use Rattle.execution.specs.declared.instructions.Instruction.{Instruction}
 use Rattle.execution.specs.declared.instructions.Listed.{Listed}
 use Rattle.std.specs.Prelude.{Option, Some, None}
@@ -18,17 +18,19 @@ use Rattle.pages.specs.declared.Code.{Code}
 use Rattle.execution.specs.declared.Opcode.{Opcode}
 use Rattle.execution.specs.declared.Opcode.TheVariants.{First, AfterFd}
 use Rattle.execution.specs.declared.Stop.{Stop}
-use Rattle.execution.specs.declared.Stop.TheVariants.{Unlisted, Halted}
+use Rattle.execution.specs.declared.Stop.TheVariants.{Unlisted, Halted, AtAddress}
+use Rattle.execution.specs.Inputs.{stops_at}
 use Rattle.execution.specs.Opcodes.{decoded}
 use Rattle.execution.specs.OpcodesFd.{decoded_fd}
 use Rattle.execution.specs.Listed.{is_listed, listed_first}
 use Rattle.execution.specs.Step.{waiting, StepEnd, did, stopped, fetched, decoded_by, decoded_step_of, reached_of, halted_of, step_of}
-use Rattle.execution.specs.Conditions.{accepted, Halting, HaltedStop, Waits, Due, first_byte, second_byte, FirstUnlisted, SecondUnlisted, Completes, NoStop}
+use Rattle.execution.specs.Conditions.{accepted, Halting, HaltedStop, Waits, Due, AddressStop, Fetches, first_byte, second_byte, FirstUnlisted, SecondUnlisted, Completes, NoStop}
 use Rattle.execution.specs.Code.Shapes.{opcode_at}
 use Rattle.execution.proofs.OpcodeRead.{instruction_answer}
 use Rattle.execution.proofs.StopsClean.{IsDid, IsActive, active_did, active_listed}
 use Rattle.execution.proofs.Choices.{none_left, none_right, cond_true, cond_false}
-use Rattle.execution.proofs.Tests.{reached_p, off_step, held_step, unheld, halting_step, accepted_step, halted_stops, halted_waits}
+use Rattle.execution.proofs.Tests.{reached_p, off_step, held_step, halting_step, address_step, fetching_step, accepted_step, halted_stops, halted_waits}
+use Rattle.execution.proofs.StopAddress.{stops_at_is, elsewhere_is}
 
 -- what a decoded opcode comes to
 decoded_end : Lh5801 → Inputs → Pages → Code Opcode → StepEnd
@@ -73,68 +75,78 @@ module _ (m : Lh5801) (inputs : Inputs) (pages : Pages) where
   answer : StepEnd
   answer = (exec (step_of m inputs) pages).answer
 
-  -- each condition tells the answer
+  -- a halted step, and one that reads an opcode
   halting_answer : Halting m → answer ≡ halted_of (reached_of m) inputs
   unfolding answer
   halting_answer h = ap (λ p. (exec p pages).answer) (halting_step m inputs h) ∙ done_answer _ pages
 
-  halted_answer : HaltedStop inputs m → answer ≡ stopped Halted
-  halted_answer h = halting_answer h.halting ∙ halted_stops (reached_of m) inputs h.idle
-
   waiting_answer : Waits inputs m → answer ≡ did (timer_part_of (add_state_of (reached_of m) inputs.idle)) inputs.idle waiting
   waiting_answer w = halting_answer w.halting ∙ halted_waits (reached_of m) inputs w.idle
 
-  due_answer : Due m → (o : Code Opcode) → opcode_at pages m.p ≡ o → answer ≡ decoded_end (reached_of m) inputs pages o
+  fetching_answer : Fetches inputs m → (o : Code Opcode) → opcode_at pages m.p ≡ o → answer ≡ decoded_end (reached_of m) inputs pages o
   unfolding answer decoded_end
-  due_answer d o e =
-      ap (λ p. (exec p pages).answer) (unheld m inputs d.on d.free d.none ∙ cond_false m.is_halted _ _ d.running)
+  fetching_answer f o e =
+      ap (λ p. (exec p pages).answer) (fetching_step m inputs f)
       ∙ instruction_answer (reached_of m) inputs pages
       ∙ ap (decoded_end (reached_of m) inputs pages) (ap (opcode_at pages) (reached_p m) ∙ e)
 
-  first_answer : (b : ℕ) → FirstUnlisted m pages b → answer ≡ stopped (Unlisted (First b))
-  first_answer b f =
-      let o : Code Opcode = fetched (First b) (up16 m.p) in
-      due_answer f.due o (opcode_first pages m.p b f.first (first_not_fd b f.unlisted))
-      ∙ end_unlisted (reached_of m) inputs pages o (first_no_entry b f.unlisted)
+  -- the condition of each stop tells the answer
+  abbrev ConditionOf : Stop → Type 0
+  ConditionOf Halted = HaltedStop inputs m
+  ConditionOf AtAddress = AddressStop inputs m
+  ConditionOf (Unlisted (First b)) = FirstUnlisted inputs m pages b
+  ConditionOf (Unlisted (AfterFd b)) = SecondUnlisted inputs m pages b
 
-  second_answer : (b : ℕ) → SecondUnlisted m pages b → answer ≡ stopped (Unlisted (AfterFd b))
-  second_answer b f =
+  stop_answer : (s : Stop) → ConditionOf s → answer ≡ stopped s
+  unfolding answer
+  stop_answer Halted h = halting_answer h.halting ∙ halted_stops (reached_of m) inputs h.idle
+  stop_answer AtAddress s = ap (λ p. (exec p pages).answer) (address_step m inputs s) ∙ done_answer _ pages
+  stop_answer (Unlisted (First b)) f =
+      let o : Code Opcode = fetched (First b) (up16 m.p) in
+      fetching_answer f.fetches o (opcode_first pages m.p b f.first (first_not_fd b f.unlisted))
+      ∙ end_unlisted (reached_of m) inputs pages o (first_no_entry b f.unlisted)
+  stop_answer (Unlisted (AfterFd b)) f =
       let o : Code Opcode = fetched (AfterFd b) (up16 (up16 m.p)) in
-      due_answer f.due o (opcode_second pages m.p b f.first f.second)
+      fetching_answer f.fetches o (opcode_second pages m.p b f.first f.second)
       ∙ end_unlisted (reached_of m) inputs pages o (no_entry (decoded_fd b) f.unlisted)
 
-  -- one of the conditions of a stop holds, or the step waits, or is completed otherwise
+  -- the condition of a stop holds, or the step waits, or is completed otherwise
   data Case : Type 0 where
-    is_halted_lem : HaltedStop inputs m → Case
+    is_stop : (s : Stop) → ConditionOf s → Case
     is_waiting : Waits inputs m → Case
-    is_first : (b : ℕ) → FirstUnlisted m pages b → Case
-    is_second : (b : ℕ) → SecondUnlisted m pages b → Case
     is_completed : IsActive answer → Case
 
-  case_first : Due m → (b : ℕ) → first_byte m pages ≡ b → ¬ (b ≡ 0xFD) → (d : Option Listed) → decoded b ≡ d → Case
-  case_first due b f h (Some l) e =
+  case_first : Fetches inputs m → (b : ℕ) → first_byte m pages ≡ b → ¬ (b ≡ 0xFD) → (d : Option Listed) → decoded b ≡ d → Case
+  case_first r b f h (Some l) e =
       let o : Code Opcode = fetched (First b) (up16 m.p) in
-      is_completed (subst IsActive (sym (due_answer due o (opcode_first pages m.p b f h))) (end_listed (reached_of m) inputs pages o l.instruction l.states e))
-  case_first due b f h None e = is_first b (record { due = due; first = f; unlisted = first_unlisted b h e })
+      is_completed (subst IsActive (sym (fetching_answer r o (opcode_first pages m.p b f h))) (end_listed (reached_of m) inputs pages o l.instruction l.states e))
+  case_first r b f h None e = is_stop (Unlisted (First b)) (record { fetches = r; first = f; unlisted = first_unlisted b h e })
 
-  case_second : Due m → first_byte m pages ≡ 0xFD → (b : ℕ) → second_byte m pages ≡ b → (d : Option Listed) → decoded_fd b ≡ d → Case
-  case_second due h b f (Some l) e =
+  case_second : Fetches inputs m → first_byte m pages ≡ 0xFD → (b : ℕ) → second_byte m pages ≡ b → (d : Option Listed) → decoded_fd b ≡ d → Case
+  case_second r h b f (Some l) e =
       let o : Code Opcode = fetched (AfterFd b) (up16 (up16 m.p)) in
-      is_completed (subst IsActive (sym (due_answer due o (opcode_second pages m.p b h f))) (end_listed (reached_of m) inputs pages o l.instruction l.states e))
-  case_second due h b f None e = is_second b (record { due = due; first = h; second = f; unlisted = ap is_listed e })
+      is_completed (subst IsActive (sym (fetching_answer r o (opcode_second pages m.p b h f))) (end_listed (reached_of m) inputs pages o l.instruction l.states e))
+  case_second r h b f None e = is_stop (Unlisted (AfterFd b)) (record { fetches = r; first = h; second = f; unlisted = ap is_listed e })
 
-  case_due : Due m → Case
-  case_due due = go (eqb (first_byte m pages) 0xFD) refl
+  case_fetching : Fetches inputs m → Case
+  case_fetching r = go (eqb (first_byte m pages) 0xFD) refl
     where
       go : (t : Bool) → eqb (first_byte m pages) 0xFD ≡ t → Case
-      go true e = case_second due (eqb-true (first_byte m pages) 0xFD e) (second_byte m pages) refl (decoded_fd (second_byte m pages)) refl
-      go false e = case_first due (first_byte m pages) refl (eqb-false (first_byte m pages) 0xFD e) (decoded (first_byte m pages)) refl
+      go true e = case_second r (eqb-true (first_byte m pages) 0xFD e) (second_byte m pages) refl (decoded_fd (second_byte m pages)) refl
+      go false e = case_first r (first_byte m pages) refl (eqb-false (first_byte m pages) 0xFD e) (decoded (first_byte m pages)) refl
+
+  case_due : Due m → Case
+  case_due d = go (stops_at inputs m.p) refl
+    where
+      go : (t : Bool) → stops_at inputs m.p ≡ t → Case
+      go true e = is_stop AtAddress (record { due = d; address = (stops_at_is inputs m.p).0 e })
+      go false e = case_fetching (record { due = d; elsewhere = (elsewhere_is inputs m.p).0 e })
 
   case_halting : Halting m → Case
   case_halting h = go (ℕ_discrete inputs.idle 0)
     where
       go : Dec (inputs.idle ≡ 0) → Case
-      go (yes e) = is_halted_lem (record { halting = h; idle = e })
+      go (yes e) = is_stop Halted (record { halting = h; idle = e })
       go (no e) = is_waiting (record { halting = h; idle = e })
 
   case_of : Case
@@ -158,64 +170,71 @@ module _ (m : Lh5801) (inputs : Inputs) (pages : Pages) where
   completed_did : IsActive answer → IsDid answer
   completed_did = active_did answer
 
-  -- the condition of each stop
-  abbrev ConditionOf : Stop → Type 0
-  ConditionOf Halted = HaltedStop inputs m
-  ConditionOf (Unlisted (First b)) = FirstUnlisted m pages b
-  ConditionOf (Unlisted (AfterFd b)) = SecondUnlisted m pages b
-
-  condition_holds : (s : Stop) → answer ≡ stopped s → ConditionOf s
-  condition_holds s e = go case_of
+  -- a step stops with each of them exactly under its condition
+  stops : (s : Stop) → (answer ≡ stopped s) ↔ ConditionOf s
+  stops s = (λ e. go e case_of, stop_answer s)
     where
-      same : {t : Stop} → answer ≡ stopped t → ConditionOf t → ConditionOf s
-      same {t} a h = let z : t ≡ s = cc (a, e) in subst ConditionOf z h
-
-      go : Case → ConditionOf s
-      go (is_halted_lem h) = same (halted_answer h) h
-      go (is_waiting w) = absurd (never_both s (waiting_did w) e)
-      go (is_first b f) = same (first_answer b f) f
-      go (is_second b f) = same (second_answer b f) f
-      go (is_completed d) = absurd (never_both s (completed_did d) e)
+      go : answer ≡ stopped s → Case → ConditionOf s
+      go e (is_stop t h) = let z : t ≡ s = cc (stop_answer t h, e) in subst ConditionOf z h
+      go e (is_waiting w) = absurd (never_both s (waiting_did w) e)
+      go e (is_completed d) = absurd (never_both s (completed_did d) e)
 
   -- 7
   pub stops_7 : ((exec (step_of m inputs) pages).answer ≡ stopped Halted) ↔ HaltedStop inputs m
   unfolding answer
-  stops_7 = (condition_holds Halted, halted_answer)
+  stops_7 = stops Halted
+
+  -- 12
+  pub stops_12 : ((exec (step_of m inputs) pages).answer ≡ stopped AtAddress) ↔ AddressStop inputs m
+  unfolding answer
+  stops_12 = stops AtAddress
 
   -- 5, with the byte
-  pub stops_5 : (b : ℕ) → ((exec (step_of m inputs) pages).answer ≡ stopped (Unlisted (First b))) ↔ FirstUnlisted m pages b
+  pub stops_5 : (b : ℕ) → ((exec (step_of m inputs) pages).answer ≡ stopped (Unlisted (First b))) ↔ FirstUnlisted inputs m pages b
   unfolding answer
-  stops_5 b = (condition_holds (Unlisted (First b)), first_answer b)
+  stops_5 b = stops (Unlisted (First b))
 
   -- 6, with the byte
-  pub stops_6 : (b : ℕ) → ((exec (step_of m inputs) pages).answer ≡ stopped (Unlisted (AfterFd b))) ↔ SecondUnlisted m pages b
+  pub stops_6 : (b : ℕ) → ((exec (step_of m inputs) pages).answer ≡ stopped (Unlisted (AfterFd b))) ↔ SecondUnlisted inputs m pages b
   unfolding answer
-  stops_6 b = (condition_holds (Unlisted (AfterFd b)), second_answer b)
+  stops_6 b = stops (Unlisted (AfterFd b))
+
+  -- "no opcode is read": on 12 the step has made no access, and the pages are as before it
+  pub stop_12_no_access : (exec (step_of m inputs) pages).answer ≡ stopped AtAddress
+      → ((exec (step_of m inputs) pages).accesses ≡ []) × ((exec (step_of m inputs) pages).pages ≡ pages)
+  stop_12_no_access e =
+      let s = address_step m inputs (stops_12.0 e) in
+      (ap (λ p. (exec p pages).accesses) s ∙ (done_none _ pages).1, ap (λ p. (exec p pages).pages) s ∙ (done_none _ pages).0)
 
   completes_did : (e : StepEnd) → IsDid e → Completes e
   completes_did (did k n kind) h = record { after = k; states = n; kind = kind; is = refl }
   completes_did (stopped s) h = absurd h
 
-  did_completes : Completes answer → IsDid answer
-  did_completes c = subst IsDid (sym c.is) tt
+  no_condition : NoStop inputs m pages → (s : Stop) → ¬ ConditionOf s
+  no_condition n Halted = n.seven
+  no_condition n AtAddress = n.twelve
+  no_condition n (Unlisted (First b)) = n.five b
+  no_condition n (Unlisted (AfterFd b)) = n.six b
 
   -- 0: the step is completed exactly where no condition of a stop holds
   pub completes : Completes (exec (step_of m inputs) pages).answer ↔ NoStop inputs m pages
   unfolding answer
   completes = (
     λ c. record {
-      seven = λ h. never_both Halted (did_completes c) (halted_answer h);
-      five = λ b f. never_both (Unlisted (First b)) (did_completes c) (first_answer b f);
-      six = λ b f. never_both (Unlisted (AfterFd b)) (did_completes c) (second_answer b f);
+      seven = never c Halted;
+      twelve = never c AtAddress;
+      five = λ b. never c (Unlisted (First b));
+      six = λ b. never c (Unlisted (AfterFd b));
     },
     go case_of,
   )
     where
+      never : Completes answer → (s : Stop) → ¬ ConditionOf s
+      never c s h = never_both s (subst IsDid (sym c.is) tt) (stop_answer s h)
+
       go : Case → NoStop inputs m pages → Completes answer
-      go (is_halted_lem h) n = absurd (n.seven h)
+      go (is_stop s h) n = absurd (no_condition n s h)
       go (is_waiting w) n = completes_did answer (waiting_did w)
-      go (is_first b f) n = absurd (n.five b f)
-      go (is_second b f) n = absurd (n.six b f)
       go (is_completed d) n = completes_did answer (completed_did d)
 
   -- a step is of the waiting kind only where it waits
@@ -224,8 +243,6 @@ module _ (m : Lh5801) (inputs : Inputs) (pages : Pages) where
   waiting_only k s e = go case_of
     where
       go : Case → Waits inputs m
-      go (is_halted_lem h) = absurd (never_both Halted (subst IsDid (sym e) tt) (halted_answer h))
+      go (is_stop t h) = absurd (never_both t (subst IsDid (sym e) tt) (stop_answer t h))
       go (is_waiting w) = w
-      go (is_first b f) = absurd (never_both (Unlisted (First b)) (subst IsDid (sym e) tt) (first_answer b f))
-      go (is_second b f) = absurd (never_both (Unlisted (AfterFd b)) (subst IsDid (sym e) tt) (second_answer b f))
       go (is_completed d) = absurd (subst IsActive e d)

@@ -73,6 +73,7 @@ clean_powered m inputs =
     (clean_active (interrupt_of (with_ir2 m false) 0xFFF8) (active_interrupt _ _))
     tt
     tt
+    tt
     (clean_instruction m inputs)
 
 -- a step that stops has made no write, and the pages are as before it

@@ -9,9 +9,11 @@ use Rattle.arithmetic.proofs.Status.{Status, Requested, requested}
 use Rattle.pages.specs.Prog.{Prog, done}
 use Rattle.pages.specs.Timer.{add_state_of, timer_part_of}
 use Rattle.pages.proofs.Always.{Always}
-use Rattle.execution.specs.Step.{StepEnd, did, stopped, waiting, instruction_of, interrupt_of, reached_of, halted_of, powered_of, step_of}
-use Rattle.execution.specs.declared.Stop.TheVariants.{Halted}
-use Rattle.execution.specs.Conditions.{accepted, Halting}
+use Rattle.execution.specs.Step.{StepEnd, did, stopped, waiting, instruction_of, interrupt_of, reached_of, halted_of, due_instruction_of, powered_of, step_of}
+use Rattle.execution.specs.declared.Stop.TheVariants.{Halted, AtAddress}
+use Rattle.std.specs.Prelude.{Some}
+use Rattle.execution.specs.Conditions.{accepted, Halting, Due, AddressStop, Fetches}
+use Rattle.execution.proofs.StopAddress.{stops_at_is, elsewhere_is}
 use Rattle.execution.proofs.Choices.{none_left, none_right, cond_both, cond_true, cond_false}
 use Rattle.execution.proofs.Ways.{moved}
 use Rattle.execution.proofs.StopsClean.{IsActive, active_interrupt}
@@ -85,7 +87,7 @@ module _ (m : Lh5801) where
     tested i j =
         cond i (interrupt_of (with_ir1 (reached_of m) false) 0xFFFA)
         (cond j (interrupt_of (with_ir2 (reached_of m) false) 0xFFF8)
-        (cond (reached_of m).is_halted (done (halted_of (reached_of m) inputs)) (instruction_of (reached_of m) inputs)))
+        (cond (reached_of m).is_halted (done (halted_of (reached_of m) inputs)) (due_instruction_of (reached_of m) inputs)))
 
     tested_step : m.bf ≡ true → m.ir0 ≡ false → step_of m inputs ≡ tested one two
     unfolding step_of powered_of one two tested
@@ -93,16 +95,28 @@ module _ (m : Lh5801) where
 
     -- no interrupt is accepted: only halted is left to test
     pub unheld : m.bf ≡ true → m.ir0 ≡ false → accepted m ≡ false
-        → step_of m inputs ≡ cond m.is_halted (done (halted_of (reached_of m) inputs)) (instruction_of (reached_of m) inputs)
+        → step_of m inputs ≡ cond m.is_halted (done (halted_of (reached_of m) inputs)) (due_instruction_of (reached_of m) inputs)
     unfolding tested
     unheld b z n =
         let e : one || two ≡ false = sym (accepted_by b z) ∙ n in
         tested_step b z ∙ cond_false one _ _ (none_left one two e) ∙ cond_false two _ _ (none_right one two e)
-        ∙ ap (λ h. cond h (done (halted_of (reached_of m) inputs)) (instruction_of (reached_of m) inputs)) reached_halted
+        ∙ ap (λ h. cond h (done (halted_of (reached_of m) inputs)) (due_instruction_of (reached_of m) inputs)) reached_halted
 
     -- halted: it stops or waits, by the idle figure
     pub halting_step : Halting m → step_of m inputs ≡ done (halted_of (reached_of m) inputs)
     halting_step h = unheld h.on h.free h.none ∙ cond_true m.is_halted _ _ h.halted
+
+    -- an instruction is due: 12, or its opcode is read, by the stop address
+    due_step : Due m → step_of m inputs ≡ due_instruction_of (reached_of m) inputs
+    due_step d = unheld d.on d.free d.none ∙ cond_false m.is_halted _ _ d.running
+
+    pub address_step : AddressStop inputs m → step_of m inputs ≡ done (stopped AtAddress)
+    unfolding due_instruction_of
+    address_step s = due_step s.due ∙ cond_true _ _ _ ((stops_at_is inputs _).1 (s.address ∙ ap Some (sym reached_p)))
+
+    pub fetching_step : Fetches inputs m → step_of m inputs ≡ instruction_of (reached_of m) inputs
+    unfolding due_instruction_of
+    fetching_step f = due_step f.due ∙ cond_false _ _ _ ((elsewhere_is inputs _).1 (λ e. f.elsewhere (e ∙ ap Some reached_p)))
 
     -- an interrupt is accepted
     pub accepted_step : m.bf ≡ true → m.ir0 ≡ false → accepted m ≡ true → Always IsActive (step_of m inputs)

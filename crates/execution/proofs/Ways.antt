@@ -8,8 +8,9 @@ use Rattle.pages.specs.Pages.{Pages}
 use Rattle.pages.specs.Prog.{Prog, done, exec}
 use Rattle.pages.specs.Timer.{add_state_of, timer_part_of}
 use Rattle.pages.proofs.Always.{Always, always_exec}
-use Rattle.execution.specs.declared.Stop.TheVariants.{Halted}
-use Rattle.execution.specs.Step.{Kind, off, held, waiting, StepEnd, did, stopped, instruction_of, interrupt_of, reached_of, halted_of, powered_of, step_of}
+use Rattle.execution.specs.declared.Stop.TheVariants.{Halted, AtAddress}
+use Rattle.execution.specs.Step.{Kind, off, held, waiting, StepEnd, did, stopped, instruction_of, interrupt_of, reached_of, halted_of, due_instruction_of, powered_of, step_of}
+use Rattle.execution.specs.Inputs.{stops_at}
 use Rattle.execution.proofs.Choices.{cond_both}
 
 -- what holds of a step's record, states and kind; of a step that stops nothing is said
@@ -32,15 +33,17 @@ module _ (R : Prog StepEnd → Type 0) (m : Lh5801) (inputs : Inputs) where
       → R (interrupt_of (with_ir2 m false) 0xFFF8)
       → R (done (stopped Halted))
       → R (done (did (timer_part_of (add_state_of m inputs.idle)) inputs.idle waiting))
+      → R (done (stopped AtAddress))
       → R (instruction_of m inputs)
       → R (powered_of m inputs)
-  unfolding powered_of halted_of
-  powered_ways f one two h w i =
+  unfolding powered_of halted_of due_instruction_of
+  powered_ways f one two h w s i =
       cond_both R m.ir0 (done (did (timer_part_of m) 0 held)) _ f
       (cond_both R (m.ir1 && has_flag m.t IE) (interrupt_of (with_ir1 m false) 0xFFFA) _ one
       (cond_both R (m.ir2 && has_flag m.t IE) (interrupt_of (with_ir2 m false) 0xFFF8) _ two
-      (cond_both R m.is_halted (done (halted_of m inputs)) (instruction_of m inputs)
-      (cond_both (λ e. R (done e)) (eqb inputs.idle 0) (stopped Halted) _ h w) i)))
+      (cond_both R m.is_halted (done (halted_of m inputs)) (due_instruction_of m inputs)
+      (cond_both (λ e. R (done e)) (eqb inputs.idle 0) (stopped Halted) _ h w)
+      (cond_both R (stops_at inputs m.p) (done (stopped AtAddress)) (instruction_of m inputs) s i))))
 
   pub step_ways : R (done (did (add_state_of m 8) 8 off)) → R (powered_of (moved m) inputs) → R (powered_of m inputs) → R (step_of m inputs)
   unfolding step_of reached_of

@@ -309,6 +309,7 @@ module _ (inputs : Inputs) (byte : inputs.keyboard < 0x100) where
       (width_interrupt (with_ir2 m false) (widths_ir2 m w false) 0xFFF8 (omega arith))
       tt
       (widths_timer_part (add_state_of m inputs.idle) (widths_add_state m w inputs.idle))
+      tt
       (width_instruction m w)
 
   -- every access of a step fits, the record of a completed one is within its widths, and the pages after it hold bytes

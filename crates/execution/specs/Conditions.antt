@@ -1,5 +1,5 @@
--- The conditions of a step's stops, in document 01's words, on the record and the pages before the step.
-use Rattle.std.specs.Prelude.{◌≡◌, ℕ, Bool, true, false, not, ◌&&◌, ◌||◌, ◌≢◌}
+-- The conditions of a step's stops, in the words of documents 01 and 02, on the record and the pages before the step.
+use Rattle.std.specs.Prelude.{◌≡◌, ℕ, Bool, true, false, not, ◌&&◌, ◌||◌, ◌≢◌, Some}
 use Rattle.arithmetic.specs.declared.record.Lh5801.{Lh5801}
 use Rattle.execution.specs.declared.Inputs.{Inputs}
 use Rattle.arithmetic.specs.Flags.{IE, has_flag}
@@ -36,6 +36,16 @@ pub record Due (m : Lh5801) : Type 0 where
   pub none : accepted m ≡ false
   pub running : m.is_halted ≡ false
 
+-- 12: that, and P equals the stop address (document 02, F-5)
+pub record AddressStop (inputs : Inputs) (m : Lh5801) : Type 0 where
+  pub due : Due m
+  pub address : inputs.stop_address ≡ Some m.p
+
+-- the opcode is read: an instruction is due, and P does not equal the stop address
+pub record Fetches (inputs : Inputs) (m : Lh5801) : Type 0 where
+  pub due : Due m
+  pub elsewhere : inputs.stop_address ≢ Some m.p
+
 -- the byte at P, and the one after it
 abbrev pub first_byte : Lh5801 → Pages → ℕ
 first_byte m pages = at pages m.p
@@ -44,14 +54,14 @@ abbrev pub second_byte : Lh5801 → Pages → ℕ
 second_byte m pages = at pages (up16 m.p)
 
 -- 5: "first byte unlisted". FD is listed
-pub record FirstUnlisted (m : Lh5801) (pages : Pages) (b : ℕ) : Type 0 where
-  pub due : Due m
+pub record FirstUnlisted (inputs : Inputs) (m : Lh5801) (pages : Pages) (b : ℕ) : Type 0 where
+  pub fetches : Fetches inputs m
   pub first : first_byte m pages ≡ b
   pub unlisted : listed_first b ≡ false
 
 -- 6: "byte after FD", "that byte unlisted"
-pub record SecondUnlisted (m : Lh5801) (pages : Pages) (b : ℕ) : Type 0 where
-  pub due : Due m
+pub record SecondUnlisted (inputs : Inputs) (m : Lh5801) (pages : Pages) (b : ℕ) : Type 0 where
+  pub fetches : Fetches inputs m
   pub first : first_byte m pages ≡ 0xFD
   pub second : second_byte m pages ≡ b
   pub unlisted : listed_after_fd b ≡ false
@@ -66,5 +76,6 @@ pub record Completes (e : StepEnd) : Type 0 where
 -- no condition of a stop holds
 pub record NoStop (inputs : Inputs) (m : Lh5801) (pages : Pages) : Type 0 where
   pub seven : ¬ HaltedStop inputs m
-  pub five : (b : ℕ) → ¬ FirstUnlisted m pages b
-  pub six : (b : ℕ) → ¬ SecondUnlisted m pages b
+  pub twelve : ¬ AddressStop inputs m
+  pub five : (b : ℕ) → ¬ FirstUnlisted inputs m pages b
+  pub six : (b : ℕ) → ¬ SecondUnlisted inputs m pages b

@@ -1,4 +1,5 @@
--- One step (document 01, "One step"), in its order. With an idle figure a halted step waits (document 02, F-1).
+-- One step (document 01, "One step"), in its order. With an idle figure a halted step waits (document 02, F-1), and a stop address stops a step before
+-- the instruction there (F-5).
 use Rattle.std.specs.Prelude.{ℕ, ◌+◌, true, false, cond, ◌&&◌, ◌==◌}
 use Rattle.arithmetic.specs.declared.record.Lh5801.{Lh5801}
 use Rattle.execution.specs.declared.Inputs.{Inputs}
@@ -13,7 +14,8 @@ use Rattle.pages.specs.declared.Code.{Code}
 use Rattle.execution.specs.declared.Opcode.{Opcode}
 use Rattle.execution.specs.declared.Opcode.TheVariants.{First, AfterFd}
 use Rattle.execution.specs.declared.Stop.{Stop}
-use Rattle.execution.specs.declared.Stop.TheVariants.{Unlisted, Halted}
+use Rattle.execution.specs.declared.Stop.TheVariants.{Unlisted, Halted, AtAddress}
+use Rattle.execution.specs.Inputs.{stops_at}
 use Rattle.execution.specs.Instructions.{execute_of}
 use Rattle.execution.specs.Opcodes.{decoded}
 use Rattle.execution.specs.OpcodesFd.{decoded_fd}
@@ -94,6 +96,10 @@ halted_of m inputs =
     cond (inputs.idle == 0) (stopped Halted)
     (did (timer_part_of (add_state_of m inputs.idle)) inputs.idle waiting)
 
+-- the instruction that is due: 12 "before the opcode is read", where "P equals the stop address" (F-5)
+unfoldable pub due_instruction_of : Lh5801 → Inputs → Prog StepEnd
+due_instruction_of m inputs = cond (stops_at inputs m.p) (done (stopped AtAddress)) (instruction_of m inputs)
+
 -- with BF set: IR0; else IR1 with IE; else IR2 with IE; else halted; else one instruction
 unfoldable pub powered_of : Lh5801 → Inputs → Prog StepEnd
 powered_of m inputs =
@@ -101,7 +107,7 @@ powered_of m inputs =
     (cond (m.ir1 && has_flag m.t IE) (interrupt_of (with_ir1 m false) 0xFFFA)
     (cond (m.ir2 && has_flag m.t IE) (interrupt_of (with_ir2 m false) 0xFFF8)
     (cond m.is_halted (done (halted_of m inputs))
-    (instruction_of m inputs))))
+    (due_instruction_of m inputs))))
 
 -- "BF clear: 8 states, nothing else, no timer part"
 unfoldable pub step_of : Lh5801 → Inputs → Prog StepEnd

@@ -9,8 +9,8 @@ ghost use Rattle.pages.specs.Contract.{Changes, Reads};
 ghost use Rattle.execution.specs.Instructions.{execute_of};
 ghost use Rattle.execution.specs.Step.{fetch_of, decoded_by, reached_of, step_of};
 ghost use Rattle.execution.specs.Code.Outcomes.{outcome_of};
-ghost use Rattle.execution.specs.Code.Due.{due_of, Ready, settled_of, executed_of, DueAgain};
-ghost use Rattle.execution.specs.Inputs.{of_keyboard};
+ghost use Rattle.execution.specs.Code.Due.{due_of, stops_before_of, Ready, settled_of, executed_of, DueAgain};
+ghost use Rattle.execution.specs.Inputs.{of_keyboard, stops_at};
 
 use crate::instructions::{Accumulator, Instruction, Listed, Signal};
 use arithmetic::record::Lh5801;
@@ -31,6 +31,8 @@ pub struct Inputs {
     pub keyboard: u8,
     /// Document 02, F-1: how many states a halted step waits; with 0 it stops.
     pub idle: u8,
+    /// Document 02, F-5: before an instruction at this address, if one is given, a step stops.
+    pub stop_address: Option<u16>,
 }
 
 impl Inputs {
@@ -38,7 +40,18 @@ impl Inputs {
     pub fn of_keyboard(keyboard: u8) -> Inputs
         ensures { result ≡ of_keyboard keyboard }
     {
-        Inputs { keyboard, idle: 0 }
+        Inputs {
+            keyboard,
+            idle: 0,
+            stop_address: None,
+        }
+    }
+
+    /// P is the stop address.
+    pub fn stops_at(self, p: u16) -> bool
+        ensures { result ≡ stops_at self p }
+    {
+        self.stop_address == Some(p)
     }
 }
 
@@ -49,11 +62,12 @@ pub enum Opcode {
     AfterFd(u8),
 }
 
-/// Why a step stops: document 01's 5 and 6 with the byte, and 7.
+/// Why a step stops: document 01's 5 and 6 with the byte, and 7; and document 02's 12, before an instruction at the stop address.
 #[derive(Clone, Copy)]
 pub enum Stop {
     Unlisted(Opcode),
     Halted,
+    AtAddress,
 }
 
 /// How the step of an instruction is completed: with an instruction due again, or not.
@@ -158,9 +172,10 @@ impl Instruction {
     }
 }
 
-/// The step of an instruction that is due: the record after it, and whether an instruction is due again; or the stop of an unlisted byte.
+/// The step of an instruction that is due, where P is not the stop address: the record after it, and whether an instruction is due again; or the stop of
+/// an unlisted byte.
 pub fn instruction(cpu: Lh5801, memory: &mut Memory, inputs: Inputs) -> Result<Executed, Stop>
-    requires { Ready cpu }
+    requires { Ready cpu × (stops_at inputs cpu.p ≡ false) }
     ensures { Changes (mapped executed_of (step_of cpu inputs)) memory result × DueAgain result }
 {
     let opcode = fetch(cpu.p, memory.view());
@@ -231,6 +246,13 @@ pub fn due(cpu: Lh5801) -> bool
     let requested = cpu.ir1 | cpu.is_timer_reached | cpu.ir2;
     let other = cpu.ir0 | (requested & enabled) | cpu.is_halted;
     cpu.bf & !other
+}
+
+/// The next step stops with 12: an instruction is due, and P is the stop address.
+pub fn stops_before(cpu: Lh5801, inputs: Inputs) -> bool
+    ensures { result ≡ stops_before_of cpu inputs }
+{
+    inputs.stops_at(cpu.p) && due(cpu)
 }
 
 /// One step in which no instruction is due.

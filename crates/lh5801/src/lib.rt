@@ -67,13 +67,19 @@ pub extern "C" fn lh5801_call(
     log_used: usize,
     read_only_first: u32,
     read_only_end: u32,
+    stop_given: bool,
+    stop_address: u16,
 ) -> usize
     ensures { Left (call_of (settings (inputs_of keyboard idle) limit) (free_in (lent_if logged (log_of log.old log_used))) (cpu_of words.old) (pages page0.old page1.old (read_only_of read_only_first read_only_end))) logged (log_of log.old log_used) (log_of log.new result) words.new (pages page0.new page1.new (read_only_of read_only_first read_only_end)) }
 {
     let numbers = taken(words);
     let cpu = record_numbers::record_of(&numbers);
     let settings = Settings {
-        inputs: Inputs { keyboard, idle },
+        inputs: Inputs {
+            keyboard,
+            idle,
+            stop_address: stop_given.then_some(stop_address),
+        },
         limit,
     };
     let mut bus_log = BusLog {

@@ -57,6 +57,7 @@ impl End {
             End::Step(Stop::Unlisted(Opcode::AfterFd(_))) => 6,
             End::Step(Stop::Halted) => 7,
             End::LogFull => 11,
+            End::Step(Stop::AtAddress) => 12,
         }
     }
 
@@ -189,28 +190,32 @@ fn log_full(log: &BusLog) -> bool
     length < log.used || length - log.used < 7
 }
 
-// Before a stretch of steps, where so many of the call are done: the limit of the stretch, or nothing where the log is full. Without a log it is the
-// call's. With one the stretch is the next step alone, and that step's accesses are appended, none if it will stop.
-#[tactic(auto, using(crate::proofs::Stretches::ahead_no_log, crate::proofs::Stretches::ahead_full))]
-fn note_ahead(
+// Before a stretch of steps, where so many of the call are done: the limit of the stretch, or why the next step is not begun. Without a log and a stop
+// address it is the call's. With one of them the stretch is the next step alone, and that step's accesses are appended to a log, none if it will stop.
+fn before_stretch(
     cpu: Lh5801,
     view: View,
     is_lent: bool,
     log: &mut BusLog,
+    settings: Settings,
     done: u32,
-    limit: u32,
-) -> Option<u32>
-    requires { done < limit }
-    ensures { NotesAhead cpu (as_shared view) done limit is_lent result log.old log.new }
+) -> Result<u32, End>
+    requires { done < settings.limit }
+    ensures { BeforeStretch settings done cpu (as_shared view) is_lent result log.old log.new }
 {
-    if !is_lent {
-        return Some(limit);
+    if !is_lent & settings.inputs.stop_address.is_none() {
+        return Ok(settings.limit);
     }
-    if log_full(log) {
-        return None;
+    if is_lent && log_full(log) {
+        return Err(End::LogFull);
     }
-    bus::note_step(cpu, view, log);
-    Some(done + 1)
+    if execution::stops_before(cpu, settings.inputs) {
+        return Err(End::Step(Stop::AtAddress));
+    }
+    if is_lent {
+        bus::note_step(cpu, view, log);
+    }
+    Ok(done + 1)
 }
 
 // Steps up to the limit, to a full log or to the first that stops. How many steps a stretch completes is known after it, so that no range counts them.
@@ -230,9 +235,9 @@ fn steps_of(
     let mut current = cpu;
     let mut steps = 0;
     while steps < settings.limit {
-        let Some(limit) = note_ahead(current, memory.view(), is_lent, log, steps, settings.limit)
-        else {
-            return answered(current, first, steps, End::LogFull);
+        let limit = match before_stretch(current, memory.view(), is_lent, log, settings, steps) {
+            Ok(limit) => limit,
+            Err(end) => return answered(current, first, steps, end),
         };
         let stretch = Settings { limit, ..settings };
         let led = advance(current, memory, stretch, steps);

@@ -12,6 +12,8 @@ use Rattle.execution.specs.declared.instructions.Instruction.{Instruction}
 use Rattle.execution.specs.declared.instructions.Instruction.TheVariants.{Rti, OnA, Sets, Off, Hlt}
 use Rattle.execution.specs.declared.instructions.Listed.{Listed}
 use Rattle.std.specs.Prelude.{Option, Some, None, Result, Ok, Err}
+use Rattle.execution.specs.declared.Inputs.{Inputs}
+use Rattle.execution.specs.Inputs.{stops_at}
 use Rattle.execution.specs.declared.Executed.{Executed}
 use Rattle.execution.specs.declared.Executed.TheVariants.{Again, Completed}
 use Rattle.execution.specs.declared.Stop.{Stop}
@@ -25,7 +27,11 @@ due_by bf ir0 ir1 reached ir2 enabled halted = bf && not ((ir0 || ((ir1 || reach
 abbrev pub due_of : Lh5801 → Bool
 due_of m = due_by m.bf m.ir0 m.ir1 m.is_timer_reached m.ir2 (has_flag m.t IE) m.is_halted
 
--- the same, with timer reached clear, so that nothing moves to IR1
+-- the next step stops with 12: the test of Conditions.antt's `AddressStop`
+abbrev pub stops_before_of : Lh5801 → Inputs → Bool
+stops_before_of m inputs = stops_at inputs m.p && due_of m
+
+-- an instruction is due, with timer reached clear, so that nothing moves to IR1
 pub record Ready (m : Lh5801) : Type 0 where
   pub due : due_of m ≡ true
   pub clear : m.is_timer_reached ≡ false

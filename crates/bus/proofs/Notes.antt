@@ -10,6 +10,7 @@ use Rattle.arithmetic.specs.Flags.{has_flag, IE}
 use Rattle.execution.specs.declared.Inputs.{Inputs}
 use Rattle.execution.specs.Step.{step_of}
 use Rattle.execution.specs.Completed.{completed_accesses}
+use Rattle.execution.specs.Code.Due.{stops_before_of}
 use Rattle.execution.specs.Code.Shapes.{bytes_from, accept_accesses, instruction_accesses, step_accesses}
 use Rattle.execution.proofs.AccessesAhead.{step_accesses_ahead, completed_few}
 use Rattle.bus.specs.declared.BusLog.{BusLog}
@@ -58,7 +59,7 @@ tested m pages =
     (cond (not m.is_halted) (instruction_accesses m pages) [])))
     []
 
-tested_are : (m : Lh5801) (pages : Pages) → step_accesses m pages ≡ tested m pages
+tested_are : (m : Lh5801) (pages : Pages) → step_accesses m pages (instruction_accesses m pages) ≡ tested m pages
 tested_are m pages =
     go m.bf m.ir0 m.is_halted ((m.is_timer_reached || m.ir1) && has_flag m.t IE) (m.ir2 && has_flag m.t IE)
     (accept_accesses m pages 0xFFFA) (accept_accesses m pages 0xFFF8) (instruction_accesses m pages)
@@ -72,10 +73,10 @@ tested_are m pages =
     go false ir0 halted first second l k n = refl
 
 -- the accesses l that the code takes the coming step's to be are at most seven, so there is room for the count
-pub step_appends : (m : Lh5801) (inputs : Inputs) (pages : Pages) {log : LentLog} {l : List Access} → log.entry.now.used ≤ most
-    → tested m pages ≡ l → Notes l log → Appends (completed_accesses (exec (step_of m inputs) pages)) log
-step_appends m inputs pages h e p =
-    let same = step_accesses_ahead m inputs pages ∙ tested_are m pages ∙ e in
+pub step_appends : (m : Lh5801) (inputs : Inputs) (pages : Pages) {log : LentLog} {l : List Access} → stops_before_of m inputs ≡ false
+    → log.entry.now.used ≤ most → tested m pages ≡ l → Notes l log → Appends (completed_accesses (exec (step_of m inputs) pages)) log
+step_appends m inputs pages s h e p =
+    let same = step_accesses_ahead m inputs pages s ∙ tested_are m pages ∙ e in
     rw same (grows_appends (omega (arith, h, ap length same, completed_few m inputs pages)) p)
 
 -- the bytes that are left: the next one, and the others

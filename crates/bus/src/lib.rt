@@ -229,7 +229,8 @@ impl BusLog<'_> {
     }
 }
 
-/// The entries of the coming step's accesses are appended, if the step is completed; none if it stops. The step's inputs do not matter.
+/// The entries of the coming step's accesses are appended, if the step is completed; none if it stops. The step's inputs do not matter, but for a stop
+/// address that it stops before: the caller has asked that.
 pub fn note_step(cpu: Lh5801, view: View, log: &mut BusLog)
     requires { log.old.used ≤ most }
     ensures { AppendsStep cpu view log }

@@ -1,6 +1,6 @@
 -- How the code is built, and need not be believed: proofs/note_step/Answers.antt ties it. What a function does that appends the entries of
 -- accesses to a lent log.
-use Rattle.std.specs.Prelude.{◌≡◌, ℕ, ◌+◌, ◌<◌, List, length}
+use Rattle.std.specs.Prelude.{◌≡◌, ℕ, ◌+◌, ◌<◌, false, List, length}
 use Rattle.arithmetic.specs.declared.record.Lh5801.{Lh5801}
 use Rattle.pages.specs.Prog.{Access, read_of, write_of, exec}
 use Rattle.std.specs.Borrow.{MutBor}
@@ -10,6 +10,7 @@ use Rattle.pages.specs.Contract.{as_shared}
 use Rattle.execution.specs.declared.Inputs.{Inputs}
 use Rattle.execution.specs.Step.{step_of}
 use Rattle.execution.specs.Completed.{completed_accesses}
+use Rattle.execution.specs.Code.Due.{stops_before_of}
 use Rattle.bus.specs.declared.BusLog.{BusLog}
 use Rattle.bus.specs.declared.Kind.{Kind}
 use Rattle.bus.specs.declared.Kind.TheVariants.{Read, Write}
@@ -43,10 +44,10 @@ abbrev pub access_of : Kind → ℕ → ℕ → Access
 access_of Read a b = read_of a b
 access_of Write a b = write_of a b
 
--- the coming step's accesses, if it is completed, whatever the inputs
+-- the coming step's accesses, if it is completed
 abbrev pub StepAccesses : (Lh5801 → Both View View → Inputs → List Access)
 StepAccesses m view inputs = completed_accesses (exec (step_of m inputs) (as_shared view))
 
--- they are appended to a log
+-- they are appended to a log, whatever the inputs are, where the step does not stop before the stop address
 abbrev pub AppendsStep : Lh5801 → Both View View → LentLog → Type 0
-AppendsStep m view log = (inputs : Inputs) → Appends (StepAccesses m view inputs) log
+AppendsStep m view log = (inputs : Inputs) → stops_before_of m inputs ≡ false → Appends (StepAccesses m view inputs) log

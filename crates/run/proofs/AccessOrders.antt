@@ -17,7 +17,7 @@ use Rattle.execution.specs.Opcodes.{decoded}
 use Rattle.execution.specs.OpcodesFd.{decoded_fd}
 use Rattle.execution.specs.Places.{locate_of, operand_of}
 use Rattle.execution.specs.Instructions.{alu_of, store_of, sta_of, memory_of, bii_of, drr_of, drl_of, load_of, compare_of, inc_word_of, dec_word_of, store_at_of, load_at_of, sin_of, sde_of, lin_of, lde_of, branch_of, lop_of, vector_of, vector_if_of, jmp_of, sjp_of, rtn_of, rti_of, load_sOf, tin_of, cin_of, pop_to_of, push_from_of, drop_word_of, execute_of}
-use Rattle.execution.specs.Step.{StepEnd, fetch_of, decoded_step_of, instruction_of, interrupt_of, reached_of, halted_of, powered_of, step_of}
+use Rattle.execution.specs.Step.{StepEnd, fetch_of, decoded_step_of, instruction_of, interrupt_of, reached_of, halted_of, due_instruction_of, powered_of, step_of}
 use Rattle.run.specs.Acceptance.{not_accepted}
 use Rattle.run.specs.Run.{no_step, completed, one_step, onward, run_of, accesses_after, accesses_of, call_unless, call_of}
 use Rattle.run.specs.RecordNumbers.{record_of}
@@ -25,7 +25,7 @@ use Rattle.run.specs.AccessOrders.{Seen, seen_of, Case, coded, start_record, ena
 
 -- one step. Whoever unfolds it unfolds all that a step computes through, but the pages
 unfoldable pub stepped : Inputs → Lh5801 → Pages → Ran StepEnd
-unfolding with_a with_t with_x with_y with_u with_s with_p with_is_halted with_bf with_ir0 with_ir1 with_ir2 with_is_timer_reached with_timer_state with_ticks with_flags add_of sbc_of cpa_of lda_of bit_test_of ◌>>=◌ read write after exec readop_of readop_word_of mem16_of push_of push_word_of pop_of pop_word_of push_state_of accept_of add_state_of passed_of timer_part_of decoded decoded_fd locate_of operand_of alu_of store_of sta_of memory_of bii_of drr_of drl_of load_of compare_of inc_word_of dec_word_of store_at_of load_at_of sin_of sde_of lin_of lde_of branch_of lop_of vector_of vector_if_of jmp_of sjp_of rtn_of rti_of load_sOf tin_of cin_of pop_to_of push_from_of drop_word_of execute_of fetch_of decoded_step_of instruction_of interrupt_of reached_of halted_of powered_of step_of record_of start_record enabled
+unfolding with_a with_t with_x with_y with_u with_s with_p with_is_halted with_bf with_ir0 with_ir1 with_ir2 with_is_timer_reached with_timer_state with_ticks with_flags add_of sbc_of cpa_of lda_of bit_test_of ◌>>=◌ read write after exec readop_of readop_word_of mem16_of push_of push_word_of pop_of pop_word_of push_state_of accept_of add_state_of passed_of timer_part_of decoded decoded_fd locate_of operand_of alu_of store_of sta_of memory_of bii_of drr_of drl_of load_of compare_of inc_word_of dec_word_of store_at_of load_at_of sin_of sde_of lin_of lde_of branch_of lop_of vector_of vector_if_of jmp_of sjp_of rtn_of rti_of load_sOf tin_of cin_of pop_to_of push_from_of drop_word_of execute_of fetch_of decoded_step_of instruction_of interrupt_of reached_of halted_of due_instruction_of powered_of step_of record_of start_record enabled
 stepped inputs m p = one_step inputs m p
 
 -- the keyboard byte is 77

@@ -51,10 +51,14 @@ pub left_then : (log : Option Log) (k l : List Access) → left_after (left_afte
 left_then None k l = refl
 left_then (Some log) k l = ap Some (appended_then log k l)
 
+-- a log that is not lent stays as it is
+pub logged_unlent : {l : List Access} {log : BusLog} → Logged false l log log
+logged_unlent = record { log = refl; lent = refl }
+
 -- a log that may be lent: no access, what was appended, what more is, and how many entries are then free
 pub logged_none : {is_lent : Bool} {log : BusLog} → Logged is_lent [] log log
 logged_none {is_lent = true} {log} = record { log = sym (appended_none (held_log log)); lent = refl }
-logged_none {is_lent = false} = record { log = refl; lent = refl }
+logged_none {is_lent = false} = logged_unlent
 
 pub logged_by : {l : List Access} (log : Both (MutBor BusLog) (MutBor BusLog)) → Appends l log → Logged true l log.entry.now log.exit.now
 unfolding with_entries

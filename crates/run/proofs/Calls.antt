@@ -8,12 +8,12 @@ use Rattle.pages.specs.Prog.{Access}
 use Rattle.pages.specs.Written.{Written}
 use Rattle.execution.specs.declared.Stop.{Stop}
 use Rattle.execution.specs.declared.Opcode.TheVariants.{First, AfterFd}
-use Rattle.execution.specs.declared.Stop.TheVariants.{Unlisted, Halted}
+use Rattle.execution.specs.declared.Stop.TheVariants.{Unlisted, Halted, AtAddress}
 use Rattle.execution.specs.Stops.{stop_number, stop_byte}
-use Rattle.execution.proofs.Stops.{stop_least, stop_most, stop_same}
+use Rattle.execution.proofs.Stops.{stop_least, stop_not_11, stop_same}
 use Rattle.execution.specs.Step.{stopped}
-use Rattle.execution.specs.Conditions.{HaltedStop, FirstUnlisted, SecondUnlisted}
-use Rattle.execution.proofs.StopConditions.{stops_5, stops_6, stops_7}
+use Rattle.execution.specs.Conditions.{HaltedStop, AddressStop, FirstUnlisted, SecondUnlisted}
+use Rattle.execution.proofs.StopConditions.{stops_5, stops_6, stops_7, stops_12}
 use Rattle.run.specs.declared.Settings.{Settings}
 use Rattle.run.specs.declared.End.{End}
 use Rattle.run.specs.declared.End.TheVariants.{AllSteps, LogFull, Step}
@@ -119,7 +119,7 @@ module _ (s : Settings) (free : Option ℕ) (m : Lh5801) (p : Pages) (h : Accept
     λ r. rw (call_run s free m p h, reaches_full s.limit r.reached r.fewer r.holds),
   )
 
-  -- 5 to 7 exactly when, after fewer completed steps, the log is not full and the next one stops
+  -- 5 to 7 and 12 exactly when, after fewer completed steps, the log is not full and the next one stops
   pub step_stops : (x : Stop) → ((call_of s free m p).answer.end ≡ Step x) ↔ ComesTo s.inputs free s.limit m p (StopsWith s.inputs x)
   step_stops x = (
     λ e. comes_to (stopping e).0 (stopping e).1,
@@ -145,7 +145,7 @@ module _ (s : Settings) (free : Option ℕ) (m : Lh5801) (p : Pages) (h : Accept
     λ r. rw (call_run s free m p h) (reaches_full s.limit r.1 r.0 r.2),
   )
 
-  -- the answer on 5 to 7: the same, so that the record and pages are as before the step that stops
+  -- the answer on 5 to 7 and 12: the same, so that the record and pages are as before the step that stops
   pub stops_with : (x : Stop) (j t : ℕ) (k : Lh5801) (q : Pages) (l : List Access)
       → (call_of s free m p ≡ call_result (Step x) j t k q l)
       ↔ ((j < s.limit) × Reaches s.inputs free j m p k q t l × StopsWith s.inputs x (free_after free l) k q)
@@ -179,11 +179,12 @@ module _ (s : Settings) (free : Option ℕ) (m : Lh5801) (p : Pages) where
 -- the end of a stop, and that of a full log, are known by number and byte
 stop_end : (e : End) (x : Stop) → end_number e ≡ stop_number x → end_byte e ≡ stop_byte x → e ≡ Step x
 stop_end (Step y) x i j = ap Step (stop_same y x i j)
-stop_end e x i j = absurd (omega (arith, stop_least x, stop_most x))
+stop_end LogFull x i j = absurd (stop_not_11 x (sym i))
+stop_end e x i j = absurd (omega (arith, stop_least x))
 
 full_end : (e : End) → end_number e ≡ 11 → e ≡ LogFull
 full_end LogFull i = refl
-full_end (Step y) i = absurd (omega (arith, stop_most y))
+full_end (Step y) i = absurd (stop_not_11 y i)
 full_end e i = absurd (omega arith)
 
 -- a number above 4, of every call: only an accepted one gives it
@@ -195,7 +196,7 @@ module _ (s : Settings) (free : Option ℕ) (m : Lh5801) (p : Pages) where
   above_4 n f (limit a b c d) = (λ e. absurd (omega (arith, n e, (number_4 s free m p).1 (a, b, c, d))), λ r. absurd (r.0.limit d))
   above_4 n f (accepted h) = (λ e. (h, (f h).0 e), λ r. (f h).1 r.1)
 
-  -- 11 exactly where, after fewer completed steps than the limit, a log is lent and full: ahead of 5, 6 and 7
+  -- 11 exactly where, after fewer completed steps than the limit, a log is lent and full: ahead of 5, 6, 7 and 12
   pub number_11 : (call_number s free m p ≡ 11) ↔ (Accepted s m p × ComesTo s.inputs free s.limit m p (λ f k q. Full f))
   number_11 =
       above_4 (λ e. omega arith)
@@ -218,18 +219,26 @@ module _ (s : Settings) (free : Option ℕ) (m : Lh5801) (p : Pages) where
 
   pub number_5 : (b : ℕ)
       → ((call_number s free m p ≡ 5) × (call_byte s free m p ≡ b))
-      ↔ (Accepted s m p × ComesTo s.inputs free s.limit m p (λ f k q. NotFull f × FirstUnlisted k q b))
+      ↔ (Accepted s m p × ComesTo s.inputs free s.limit m p (λ f k q. NotFull f × FirstUnlisted s.inputs k q b))
   number_5 b = stop_where (Unlisted (First b)) (λ k q. stops_5 k s.inputs q b)
 
   pub number_6 : (b : ℕ)
       → ((call_number s free m p ≡ 6) × (call_byte s free m p ≡ b))
-      ↔ (Accepted s m p × ComesTo s.inputs free s.limit m p (λ f k q. NotFull f × SecondUnlisted k q b))
+      ↔ (Accepted s m p × ComesTo s.inputs free s.limit m p (λ f k q. NotFull f × SecondUnlisted s.inputs k q b))
   number_6 b = stop_where (Unlisted (AfterFd b)) (λ k q. stops_6 k s.inputs q b)
 
   pub number_7 : (call_number s free m p ≡ 7)
       ↔ (Accepted s m p × ComesTo s.inputs free s.limit m p (λ f k q. NotFull f × HaltedStop s.inputs k))
   number_7 =
       let t = stop_where Halted (λ k q. stops_7 k s.inputs q) in (
+        λ e. t.0 (e, byte_0 (call_of s free m p).answer.end (λ z. omega arith) (λ z. omega arith)),
+        λ r. (t.1 r).0,
+      )
+
+  pub number_12 : (call_number s free m p ≡ 12)
+      ↔ (Accepted s m p × ComesTo s.inputs free s.limit m p (λ f k q. NotFull f × AddressStop s.inputs k))
+  number_12 =
+      let t = stop_where AtAddress (λ k q. stops_12 k s.inputs q) in (
         λ e. t.0 (e, byte_0 (call_of s free m p).answer.end (λ z. omega arith) (λ z. omega arith)),
         λ r. (t.1 r).0,
       )

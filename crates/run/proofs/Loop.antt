@@ -1,5 +1,5 @@
 -- What the loop over instructions keeps, and how a step, a stop and the limit go on from it. No log is looked at here.
-use Rattle.std.proofs.Common.{◌≡◌, ℕ, ◌+◌, ◌<◌, ◌≤◌, true, List, [], ◌++◌, sym, refl, ap, ◌∙◌, subst, true≢false, arith}
+use Rattle.std.proofs.Common.{◌≡◌, ℕ, ◌+◌, ◌<◌, ◌≤◌, Bool, true, false, ◌&&◌, List, [], ◌++◌, inl, inr, sym, refl, ap, ◌∙◌, subst, true≢false, arith}
 use Rattle.std.specs.Prelude.{Option, None, Some, Result, Ok, Err}
 use Rattle.arithmetic.specs.declared.record.Lh5801.{Lh5801}
 use Rattle.execution.specs.declared.Inputs.{Inputs}
@@ -11,14 +11,16 @@ use Rattle.pages.proofs.Does.{mapped_value, mapped_pages, lent_same, lent_then}
 use Rattle.execution.specs.declared.Stop.{Stop}
 use Rattle.execution.specs.Step.{Kind, StepEnd, did, stopped, reached_of, step_of}
 use Rattle.execution.specs.Code.Outcomes.{outcome_of}
+use Rattle.execution.specs.Inputs.{equals_address, stops_at}
 use Rattle.execution.specs.Code.Due.{due_of, Ready}
 use Rattle.execution.proofs.Order.{reached_ready, reached_back, step_reached}
 use Rattle.execution.proofs.DueTest.{due_on}
+use Rattle.execution.proofs.Tests.{reached_p}
 use Rattle.execution.proofs.StopsClean.{stop_no_write}
 use Rattle.run.specs.declared.Settings.{Settings}
 use Rattle.run.specs.Run.{one_step}
 use Rattle.run.specs.Reaches.{Reaches, start}
-use Rattle.run.specs.Code.Leads.{Leads, LeadsIn, led, unmoved_of}
+use Rattle.run.specs.Code.Leads.{Leads, LeadsIn, led, Passes, unmoved_of}
 use Rattle.run.proofs.Ends.{reaches_then, reaches_none, reaches_from}
 
 -- after so many completed steps: what they have led to, where so many entries of a log were free, or there is none
@@ -40,6 +42,7 @@ pub record Executing (s : Settings) (done : ℕ) (first : Lh5801) (l : Memory) (
   pub within : steps ≤ s.limit
   pub kept : Kept s first l more m n
   pub ready : Ready m
+  pub elsewhere : steps < s.limit → stops_at s.inputs m.p ≡ false
 
 abbrev pub at_start_lem : (inputs : Inputs) (limit : ℕ) (free : Option ℕ) (m : Lh5801) (p : Pages) → Going inputs limit free m p 0 m p
 at_start_lem inputs limit free m p =
@@ -114,10 +117,27 @@ moved_back : (m : Lh5801) → unmoved_of (reached_of m) m ≡ m
 unfolding unmoved_of
 moved_back m = reached_back m
 
+-- P is not the stop address where a stretch begins, if an instruction is due there, and after a step of it, if there is another
+not_both : (a b : Bool) → a && b ≡ false → b ≡ true → a ≡ false
+not_both true b e t = absurd (true≢false (sym t ∙ e))
+not_both false b e t = refl
+
+none_there : (inputs : Inputs) (p : ℕ) → inputs.stop_address ≡ None → stops_at inputs p ≡ false
+none_there inputs p e = ap (λ (a : Option ℕ). equals_address a p) e
+
+begins_elsewhere : (s : Settings) (done : ℕ) (m : Lh5801) → Passes s done m → due_of m ≡ true → stops_at s.inputs (reached_of m).p ≡ false
+begins_elsewhere s done m (inl e) due = none_there s.inputs _ e
+begins_elsewhere s done m (inr h) due = ap (stops_at s.inputs) (reached_p m) ∙ not_both _ _ h.1 due
+
+goes_elsewhere : (s : Settings) (done : ℕ) (m : Lh5801) {steps : ℕ} (p : ℕ) → Passes s done m → done < steps → steps < s.limit → stops_at s.inputs p ≡ false
+goes_elsewhere s done m p (inl e) i j = none_there s.inputs p e
+goes_elsewhere s done m p (inr h) i j = absurd (omega (arith, h.0))
+
 -- the loop over instructions, from its start on
-pub executing_start : {s : Settings} {done : ℕ} (m : Lh5801) {l : Memory} {first : Lh5801} → due_of m ≡ true → done < s.limit → first ≡ reached_of m
+pub executing_start : {s : Settings} {done : ℕ} (m : Lh5801) {l : Memory} {first : Lh5801} → due_of m ≡ true → done < s.limit → Passes s done m
+    → first ≡ reached_of m
     → Executing s done first l done first l
-executing_start {s} m {l = l} due room moved =
+executing_start {s} {done} m {l = l} due room passes moved =
     rw moved
     (record {
       more = 0;
@@ -125,6 +145,7 @@ executing_start {s} m {l = l} due room moved =
       within = omega (arith, room);
       kept = record { going = at_start_lem s.inputs s.limit None (reached_of m) (held l); lent = lent_same };
       ready = reached_ready m due;
+      elsewhere = λ _. begins_elsewhere s done m passes due;
     })
 
 module _ {s : Settings} {done : ℕ} {first : Lh5801} {l : Memory} {steps : ℕ} {k : Lh5801} {n : Memory} (g : Executing s done first l steps k n) (room : steps < s.limit) where
@@ -133,9 +154,17 @@ module _ {s : Settings} {done : ℕ} {first : Lh5801} {l : Memory} {steps : ℕ}
   kept_on d =
       record { going = go_on g.kept.going (omega (arith, g.steps_are, room)) (outcome s.inputs k d); lent = lent_then g.kept.lent d.lent }
 
-  pub executing_next : {j : Lh5801} {o : Memory} → Does (mapped outcome_of (step_of k s.inputs)) n (Ok j) o → Ready j
+  pub executing_next : (m : Lh5801) {j : Lh5801} {o : Memory} → Passes s done m → Does (mapped outcome_of (step_of k s.inputs)) n (Ok j) o → Ready j
       → Executing s done first l (steps + 1) j o
-  executing_next d r = record { more = g.more + 1; steps_are = omega (arith, g.steps_are); within = omega (arith, room); kept = kept_on d; ready = r }
+  executing_next m passes d r =
+      record {
+        more = g.more + 1;
+        steps_are = omega (arith, g.steps_are);
+        within = omega (arith, room);
+        kept = kept_on d;
+        ready = r;
+        elsewhere = goes_elsewhere s done m _ passes (omega (arith, g.steps_are));
+      }
 
   module _ {m : Lh5801} (due : due_of m ≡ true) (moved : first ≡ reached_of m) where
     -- nothing else is due after it

@@ -18,8 +18,8 @@ pub byte_0 : (e : End) → ¬ (end_number e ≡ 5) → ¬ (end_number e ≡ 6) �
 byte_0 (Step s) a b = stop_byte_0 s a b
 byte_0 e a b = refl
 
--- there is no number above 11
-pub number_most : (e : End) → end_number e ≤ 11
+-- there is no number above 12
+pub number_most : (e : End) → end_number e ≤ 12
 number_most (Step s) = omega (arith, stop_most s)
 number_most e = omega arith
 

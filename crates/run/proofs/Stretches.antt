@@ -1,9 +1,14 @@
 -- The loop over stretches of steps, with a log that may be lent: what it keeps, and how a stretch, a stop, a full log and the limit go on from it.
-use Rattle.std.proofs.Common.{◌≡◌, ℕ, ◌+◌, ◌<◌, ◌≤◌, Bool, true, false, List, [], ◌++◌, sym, refl, ap, ◌∙◌, append-nil, arith, subst}
-use Rattle.std.specs.Prelude.{Option, None, Some}
+use Rattle.std.proofs.Common.{◌≡◌, ℕ, ◌+◌, ◌-◌, ◌<◌, ◌≤◌, Bool, true, false, not, ◌&&◌, List, [], ◌++◌, length, inl, inr, sym, refl, ap, ◌∙◌, append-nil, true≢false, ltb-false, arith, subst}
+use Rattle.std.specs.Prelude.{Option, None, Some, Result, Ok, Err, is_some}
 use Rattle.arithmetic.specs.declared.record.Lh5801.{Lh5801}
 use Rattle.execution.specs.declared.Inputs.{Inputs}
 use Rattle.execution.specs.declared.Stop.{Stop}
+use Rattle.execution.specs.declared.Stop.TheVariants.{AtAddress}
+use Rattle.execution.specs.Code.Due.{stops_before_of}
+use Rattle.execution.proofs.DueTest.{stops_before_is}
+use Rattle.execution.proofs.StopConditions.{stops_12}
+use Rattle.execution.specs.Step.{stopped}
 use Rattle.execution.specs.Completed.{completed_accesses}
 use Rattle.pages.specs.declared.Memory.{Memory}
 use Rattle.pages.specs.Pages.{Pages}
@@ -11,6 +16,7 @@ use Rattle.pages.specs.Prog.{Access}
 use Rattle.pages.specs.Contract.{held, SameLent}
 use Rattle.pages.proofs.Does.{lent_same, lent_then}
 use Rattle.bus.specs.declared.BusLog.{BusLog}
+use Rattle.run.specs.declared.End.{End}
 use Rattle.run.specs.declared.End.{End}
 use Rattle.run.specs.declared.End.TheVariants.{AllSteps, LogFull, Step}
 use Rattle.run.specs.declared.Led.{Led}
@@ -21,7 +27,7 @@ use Rattle.run.specs.Run.{CallResult, call_result, one_step, run_of, call_of, se
 use Rattle.run.specs.Reaches.{Reaches, start, next}
 use Rattle.run.specs.declared.Answer.{Answer}
 use Rattle.run.specs.Answers.{free_if, Logged, CallAnswers}
-use Rattle.run.specs.Code.Leads.{AheadIs, Leads, LeadsIn, NotesAhead, no_log, full, has_room}
+use Rattle.run.specs.Code.Leads.{AheadIs, Leads, LeadsIn, Passes, BeforeStretch, unwatched, full, at_address, one_step_alone}
 use Rattle.run.specs.Code.States.{answer_of, states_between, AnswersIn}
 use Rattle.run.proofs.BusLog.{after_none, after_append, logged_none, logged_then, logged_free}
 use Rattle.run.proofs.Acceptance.{call_run, accepted_by}
@@ -29,20 +35,27 @@ use Rattle.run.proofs.Loop.{Going, at_start_lem}
 use Rattle.run.proofs.Steps.{run_written}
 use Rattle.run.proofs.Ends.{reaches_run, reaches_full, reaches_stop, reaches_all, reaches_none, reaches_logged, reaches_ticks, reaches_most}
 
--- how far the next stretch may go, by the code's tests
-module _ (m : Lh5801) (p : Pages) (done limit : ℕ) {is_lent : Bool} {log : BusLog} where
-  pub ahead_no_log : is_lent ≡ false → NotesAhead m p done limit is_lent (Some limit) log log
-  ahead_no_log e = rw e no_log
+-- before a stretch, by the code's tests
+module _ (s : Settings) (done : ℕ) (m : Lh5801) (p : Pages) where
+  pub ahead_unwatched : (none is_lent : Bool) (log : BusLog) → is_some s.inputs.stop_address ≡ not none → not is_lent && none ≡ true
+      → BeforeStretch s done m p is_lent (Ok s.limit) log log
+  ahead_unwatched none true log n e = absurd (true≢false (sym e))
+  ahead_unwatched none false log n e = go s.inputs.stop_address refl (n ∙ ap not e)
+    where
+      go : (a : Option ℕ) → s.inputs.stop_address ≡ a → is_some a ≡ false → BeforeStretch s done m p false (Ok s.limit) log log
+      go None i t = unwatched i
+      go (Some x) i t = absurd (true≢false t)
 
-  pub ahead_full : is_lent ≡ true → log_full (Some (free_of (held_log log))) ≡ true → NotesAhead m p done limit is_lent None log log
+  pub ahead_full : (is_lent : Bool) (log : BusLog) → Full (free_if is_lent log) → BeforeStretch s done m p is_lent (Err LogFull) log log
   unfolding free_in
-  ahead_full e f = rw e (full f)
+  ahead_full true log e = full e
+  ahead_full false log e = absurd (true≢false (sym e))
 
-  pub ahead_room : {after : BusLog} → is_lent ≡ true → log_full (Some (free_of (held_log log))) ≡ false
-      → ((inputs : Inputs) → Logged true (completed_accesses (one_step inputs m p)) log after)
-      → NotesAhead m p done limit is_lent (Some (done + 1)) log after
-  unfolding free_in
-  ahead_room e f g = rw e (has_room f g)
+-- and where a log is lent and not full, its used count is that of entries that it has
+pub room_counted : (is_lent : Bool) (log : BusLog) → is_lent ≡ true → NotFull (free_if is_lent log) → log.used + 7 ≤ length log.entries.now
+unfolding free_in
+room_counted true log e f = omega (arith, ltb-false (length log.entries.now - log.used) 7 f)
+room_counted false log e f = absurd (true≢false (sym e))
 
 -- so many completed steps of the call have led here, and their accesses were appended, if a log is lent
 pub record Stretched (s : Settings) (is_lent : Bool) (before : BusLog) (first : Lh5801) (l : Memory) (steps : ℕ) (m : Lh5801) (n : Memory) (now : BusLog) : Type 0 where
@@ -67,14 +80,30 @@ one_bus : {inputs : Inputs} {j : ℕ} {m k : Lh5801} {p q : Pages} {t : ℕ} {l 
 one_bus start h none = none refl
 one_bus (next f e r) h none = rw (e, (reaches_none r (omega (arith, h))).3) (sym (append-nil _))
 
--- what is known before a stretch
-module _ {done limit : ℕ} {m : Lh5801} {p : Pages} where
-  full_ahead : {is_lent : Bool} {now after : BusLog} → NotesAhead m p done limit is_lent None now after → Full (free_if is_lent now) × (after ≡ now)
-  full_ahead (full f) = (f, refl)
+-- why a step is not begun: the log is full; or it is not, and the step stops before the stop address
+data EndsAhead (s : Settings) (m : Lh5801) (p : Pages) (free : Option ℕ) : End → Type 0 where
+  is_full : Full free → EndsAhead s m p free LogFull
+  is_there : NotFull free → (one_step s.inputs m p).answer ≡ stopped AtAddress → EndsAhead s m p free (Step AtAddress)
 
-  room_ahead : {is_lent : Bool} {reach : ℕ} {now after : BusLog} → done < limit → NotesAhead m p done limit is_lent (Some reach) now after → reach ≤ limit
-  room_ahead h no_log = omega arith
-  room_ahead h (has_room f g) = omega (arith, h)
+-- what is known before a stretch
+module _ {s : Settings} {done : ℕ} {m : Lh5801} {p : Pages} where
+  room_ahead : {is_lent : Bool} {reach : ℕ} {now after : BusLog} → done < s.limit → BeforeStretch s done m p is_lent (Ok reach) now after → reach ≤ s.limit
+  room_ahead h (unwatched e) = omega arith
+  room_ahead h (one_step_alone f e g) = omega (arith, h)
+
+  pub more_ahead : {is_lent : Bool} {reach : ℕ} {now after : BusLog} → done < s.limit → BeforeStretch s done m p is_lent (Ok reach) now after → done < reach
+  more_ahead h (unwatched e) = h
+  more_ahead h (one_step_alone f e g) = omega arith
+
+  pub passes_ahead : {is_lent : Bool} {reach : ℕ} {now after : BusLog} → BeforeStretch s done m p is_lent (Ok reach) now after
+      → Passes (settings s.inputs reach) done m
+  passes_ahead (unwatched e) = inl e
+  passes_ahead (one_step_alone f e g) = inr (omega arith, e)
+
+  end_ahead : {is_lent : Bool} {e : End} {now after : BusLog} → BeforeStretch s done m p is_lent (Err e) now after
+      → (after ≡ now) × EndsAhead s m p (free_if is_lent now) e
+  end_ahead (full f) = (refl, is_full f)
+  end_ahead (at_address f e) = (refl, is_there f ((stops_12 m s.inputs p).1 ((stops_before_is m s.inputs).0 e)))
 
 -- where no step of a stretch was completed, the next one stops, and none of its accesses is logged
 none_before : {inputs : Inputs} {done limit : ℕ} {m : Lh5801} {p : Pages} {r : Led} {q : Pages} (d : Leads inputs done limit m p r q) → d.more ≡ 0
@@ -85,29 +114,29 @@ none_before {inputs} {done} {limit} {r = r} {q = q} d z = go r.stop d.ahead
     go None a = absurd (omega (arith, a, z, d.steps))
     go (Some s) a = rw a.1 refl
 
-module _ {done limit : ℕ} {m : Lh5801} {p : Pages} {inputs : Inputs} {r : Led} {q : Pages} where
+module _ {s : Settings} {done : ℕ} {m : Lh5801} {p : Pages} {r : Led} {q : Pages} where
   -- what a stretch leads to, with the log as it was left before it
-  stretch_reached : {is_lent : Bool} {reach : ℕ} {now after : BusLog} (d : Leads inputs done reach m p r q)
-      → NotesAhead m p done limit is_lent (Some reach) now after
-      → Reaches inputs (free_if is_lent now) d.more m p r.cpu q d.states d.bus × Logged is_lent d.bus now after
+  stretch_reached : {is_lent : Bool} {reach : ℕ} {now after : BusLog} (d : Leads s.inputs done reach m p r q)
+      → BeforeStretch s done m p is_lent (Ok reach) now after
+      → Reaches s.inputs (free_if is_lent now) d.more m p r.cpu q d.states d.bus × Logged is_lent d.bus now after
   unfolding free_in
-  stretch_reached d no_log = (d.reached, record { log = refl; lent = refl })
-  stretch_reached d (has_room f g) =
+  stretch_reached d (unwatched e) = (d.reached, record { log = refl; lent = refl })
+  stretch_reached d (one_step_alone f e g) =
       let few : d.more ≤ 1 = omega (arith, d.within, d.steps) in
-      (reaches_logged f few d.reached, rw (one_bus d.reached few (none_before d)) at (g inputs))
+      (reaches_logged f few d.reached, rw (one_bus d.reached few (none_before d)) at g)
 
   -- before a stop the log is not full
-  not_full_ahead : {is_lent : Bool} {reach : ℕ} {now after : BusLog} {x : Stop} (d : Leads inputs done reach m p r q)
-      → NotesAhead m p done limit is_lent (Some reach) now after
+  not_full_ahead : {is_lent : Bool} {reach : ℕ} {now after : BusLog} {x : Stop} (d : Leads s.inputs done reach m p r q)
+      → BeforeStretch s done m p is_lent (Ok reach) now after
       → r.stop ≡ Some x
       → NotFull (free_after (free_if is_lent now) d.bus)
   unfolding free_in
-  not_full_ahead d no_log e = refl
-  not_full_ahead {now = now} {x = x} d (has_room f g) e =
-      let stops : AheadIs inputs done (done + 1) r.steps r.cpu q (Some x) = subst (AheadIs inputs done (done + 1) r.steps r.cpu q) e d.ahead in
+  not_full_ahead d (unwatched n) e = refl
+  not_full_ahead {is_lent = is_lent} {now = now} {x = x} d (one_step_alone f n g) e =
+      let stops : AheadIs s.inputs done (done + 1) r.steps r.cpu q (Some x) = subst (AheadIs s.inputs done (done + 1) r.steps r.cpu q) e d.ahead in
       let none : d.more ≡ 0 = omega (arith, stops.0, d.steps) in
-      subst (λ (l : List Access). NotFull (free_after (free_if true now) l)) (sym (reaches_none d.reached none).3)
-      (subst NotFull (sym (after_none (free_if true now))) f)
+      subst (λ (l : List Access). NotFull (free_after (free_if is_lent now) l)) (sym (reaches_none d.reached none).3)
+      (subst NotFull (sym (after_none (free_if is_lent now))) f)
 
 -- the states so far, from the ticks
 counted : {s : Settings} {is_lent : Bool} {before : BusLog} {first : Lh5801} {l : Memory} {steps : ℕ} {m : Lh5801} {n : Memory} {now : BusLog}
@@ -127,14 +156,18 @@ module _ {s : Settings} {is_lent : Bool} {before : BusLog} {first : Lh5801} {l :
       told (ap (λ (k : ℕ). run_of k s.inputs (free_if is_lent before) first (held l)) e ∙ reaches_run g.going.reached) (counted g i j) g.lent g.logged
 
   module _ (room : steps < s.limit) {after : BusLog} where
-    -- the log is full
-    pub stretched_full : NotesAhead m (held n) steps s.limit is_lent None now after → s.inputs.idle ≤ 255 → s.limit ≤ 1_000_000
-        → AnswersIn call l (answer_of LogFull steps (states_between first.ticks m.ticks) m) n is_lent before after
-    stretched_full a i j =
-        let f = full_ahead a in
-        rw f.1 (told (reaches_full s.limit g.going.reached room (subst Full (logged_free g.logged) f.0)) (counted g i j) g.lent g.logged)
+    -- the log is full, or the next step stops before the stop address
+    pub stretched_ends : {e : End} → BeforeStretch s steps m (held n) is_lent (Err e) now after → s.inputs.idle ≤ 255 → s.limit ≤ 1_000_000
+        → AnswersIn call l (answer_of e steps (states_between first.ticks m.ticks) m) n is_lent before after
+    stretched_ends a i j = rw (end_ahead a).0 (go (end_ahead a).1)
+      where
+        go : {e : End} → EndsAhead s m (held n) (free_if is_lent now) e
+            → AnswersIn call l (answer_of e steps (states_between first.ticks m.ticks) m) n is_lent before now
+        go (is_full f) = told (reaches_full s.limit g.going.reached room (subst Full (logged_free g.logged) f)) (counted g i j) g.lent g.logged
+        go (is_there f t) =
+            told (reaches_stop s.limit g.going.reached room (subst NotFull (logged_free g.logged) f, t)) (counted g i j) g.lent g.logged
 
-    module _ {reach : ℕ} (a : NotesAhead m (held n) steps s.limit is_lent (Some reach) now after) {r : Led} {o : Memory}
+    module _ {reach : ℕ} (a : BeforeStretch s steps m (held n) is_lent (Ok reach) now after) {r : Led} {o : Memory}
         (d : LeadsIn (settings s.inputs reach) steps m n r o) where
       -- a stretch is done
       pub stretched_next : Stretched s is_lent before first l r.steps r.cpu o after

@@ -7,7 +7,7 @@ use Rattle.run.specs.declared.Settings.{Settings}
 use Rattle.run.specs.declared.End.{End}
 use Rattle.run.specs.declared.End.TheVariants.{AllSteps, Page0Length, Page1Length, TimerValue, Limit, LogFull, Step}
 
--- document 01's number of each end, and document 02's 11
+-- document 01's number of each end, and document 02's 11 and 12
 abbrev pub end_number : End → ℕ
 end_number AllSteps = 0
 end_number Page0Length = 1

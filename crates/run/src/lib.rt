@@ -6,10 +6,10 @@ ghost use Rattle.pages.specs.Pages.{pages};
 ghost use Rattle.pages.specs.Contract.{at_entry, held, as_shared};
 ghost use Rattle.execution.specs.Code.Due.{due_of};
 ghost use Rattle.run.specs.Acceptance.{end_number, end_byte, not_accepted};
-ghost use Rattle.run.specs.BusLog.{held_log, free_of, log_full};
+ghost use Rattle.run.specs.BusLog.{log_full};
 ghost use Rattle.run.specs.Run.{run_of, call_of};
 ghost use Rattle.run.specs.Answers.{free_if, CallAnswers};
-ghost use Rattle.run.specs.Code.Leads.{unmoved_of, LeadsIn, NotesAhead};
+ghost use Rattle.run.specs.Code.Leads.{unmoved_of, LeadsIn, Passes, BeforeStretch};
 ghost use Rattle.run.specs.Code.States.{answer_of, states_between, AnswersIn};
 
 use arithmetic::record::Lh5801;
@@ -115,7 +115,7 @@ fn unmoved(moved: Lh5801, before: Lh5801) -> Lh5801
 
 // Instruction after instruction, for as long as nothing else can be due; so many steps were completed before.
 fn instructions(cpu: Lh5801, memory: &mut Memory, settings: Settings, done: u32) -> Led
-    requires { (due_of cpu ≡ true) × (done < settings.limit) }
+    requires { (due_of cpu ≡ true) × (done < settings.limit) × Passes settings done cpu }
     ensures { LeadsIn settings done cpu memory.entry.now result memory.exit.now }
 {
     let mut current = execution::reached(cpu);
@@ -173,7 +173,7 @@ fn other_step(cpu: Lh5801, memory: &mut Memory, settings: Settings, done: u32) -
 
 // The next steps: instructions for as long as they are due, or one step of another kind; so many were completed before.
 fn advance(cpu: Lh5801, memory: &mut Memory, settings: Settings, done: u32) -> Led
-    requires { done < settings.limit }
+    requires { (done < settings.limit) × Passes settings done cpu }
     ensures { LeadsIn settings done cpu memory.entry.now result memory.exit.now }
 {
     if !execution::due(cpu) {
@@ -182,12 +182,13 @@ fn advance(cpu: Lh5801, memory: &mut Memory, settings: Settings, done: u32) -> L
     instructions(cpu, memory, settings, done)
 }
 
-// Fewer than seven entries of a log are free, or the used count is beyond it.
-fn log_full(log: &BusLog) -> bool
-    ensures { result ≡ log_full (Some (free_of (held_log log.now))) }
+// A log is lent, and fewer than seven of its entries are free, or the used count is beyond it.
+#[tactic(auto, unfolding(crate::specs::BusLog::free_in))]
+fn log_full(is_lent: bool, log: &BusLog) -> bool
+    ensures { result ≡ log_full (free_if is_lent log.now) }
 {
     let length = log.entries.len();
-    length < log.used || length - log.used < 7
+    is_lent && (length < log.used || length - log.used < 7)
 }
 
 // Before a stretch of steps, where so many of the call are done: the limit of the stretch, or why the next step is not begun. Without a log and a stop
@@ -206,7 +207,7 @@ fn before_stretch(
     if !is_lent & settings.inputs.stop_address.is_none() {
         return Ok(settings.limit);
     }
-    if is_lent && log_full(log) {
+    if log_full(is_lent, log) {
         return Err(End::LogFull);
     }
     if execution::stops_before(cpu, settings.inputs) {

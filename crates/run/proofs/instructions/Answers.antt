@@ -3,16 +3,16 @@ use Rattle.run.proofs.Loop.{executing_start, executing_next, executing_ends, exe
 use Rattle.run.proofs.instructions.Goals as goal
 
 pub loop-steps-init : goal.loop-steps-init
-loop-steps-init c = executing_start c.args.cpu c.requires.0 c.requires.1 c.reached-current.ensures
+loop-steps-init c = executing_start c.args.cpu c.requires.0 c.requires.1 c.requires.2 c.reached-current.ensures
 
 pub instruction-requires : goal.instruction-requires
-instruction-requires c = c.loop-steps.invariant.ready
+instruction-requires c = (c.loop-steps.invariant.ready, c.loop-steps.invariant.elsewhere c.loop-steps-test.true)
 
 pub loop-steps-preserved : goal.loop-steps-preserved
 loop-steps-preserved c =
     let e = c.in-Ok-Again in
     rw e.field-0-is
-    (executing_next c.loop-steps.invariant c.loop-steps-test.true (executed_step _ _ (rw (e.is, e.field-0-is) at c.instruction.ensures.0))
+    (executing_next c.loop-steps.invariant c.loop-steps-test.true c.args.cpu c.requires.2 (executed_step _ _ (rw (e.is, e.field-0-is) at c.instruction.ensures.0))
     (rw (e.is, e.field-0-is) at c.instruction.ensures.1))
 
 pub returns-in-Ok-Completed : goal.returns-in-Ok-Completed

@@ -1,6 +1,6 @@
 -- How the code is built, and need not be believed (proofs/Loop.antt and proofs/Stretches.antt tie it): how far a stretch of a call's steps may go, which
 -- the code takes as one piece, and what it comes to.
-use Rattle.std.specs.Prelude.{◌≡◌, ℕ, Bool, true, false, ◌+◌, ◌<◌, ◌≤◌, List, Option, None, Some}
+use Rattle.std.specs.Prelude.{◌≡◌, ℕ, Bool, true, false, ◌+◌, ◌<◌, ◌≤◌, ◌⊎◌, List, Option, None, Some, Result, Ok, Err}
 use Rattle.arithmetic.specs.declared.record.Lh5801.{Lh5801}
 use Rattle.arithmetic.specs.Record.{with_ir1, with_is_timer_reached}
 use Rattle.execution.specs.declared.Inputs.{Inputs}
@@ -9,10 +9,14 @@ use Rattle.pages.specs.Pages.{Pages}
 use Rattle.pages.specs.Prog.{Access}
 use Rattle.pages.specs.Contract.{held, SameLent}
 use Rattle.execution.specs.declared.Stop.{Stop}
+use Rattle.execution.specs.declared.Stop.TheVariants.{AtAddress}
 use Rattle.execution.specs.Step.{stopped}
 use Rattle.execution.specs.Completed.{completed_accesses}
+use Rattle.execution.specs.Code.Due.{stops_before_of}
 use Rattle.bus.specs.declared.BusLog.{BusLog}
 use Rattle.run.specs.declared.Settings.{Settings}
+use Rattle.run.specs.declared.End.{End}
+use Rattle.run.specs.declared.End.TheVariants.{LogFull, Step}
 use Rattle.run.specs.declared.Led.{Led}
 use Rattle.run.specs.Run.{one_step}
 use Rattle.run.specs.Reaches.{Reaches}
@@ -43,16 +47,24 @@ pub record LeadsIn (s : Settings) (done : ℕ) (m : Lh5801) (l : Memory) (r : Le
   pub leads : Leads s.inputs done s.limit m (held l) r (held n)
   pub lent : SameLent l n
 
--- the limit of the next stretch, where so many steps of a call are done, and what was appended to the log before it
-pub data NotesAhead (m : Lh5801) (p : Pages) (done limit : ℕ) : Bool → Option ℕ → BusLog → BusLog → Type 0 where
-  -- without a log it is the call's limit
-  no_log : {log : BusLog} → NotesAhead m p done limit false (Some limit) log log
+-- no step of the stretch stops before the stop address, so that it is not looked for in between: there is none, or the stretch is one step at most, and
+-- that does not
+abbrev pub Passes : Settings → ℕ → Lh5801 → Type 0
+Passes s done m = (s.inputs.stop_address ≡ None) ⊎ ((s.limit ≤ done + 1) × (stops_before_of m s.inputs ≡ false))
+
+-- before a stretch, where so many steps of a call are done: the stretch's limit, or why the next step is not begun, and what was appended to the log
+pub data BeforeStretch (s : Settings) (done : ℕ) (m : Lh5801) (p : Pages) : Bool → Result ℕ End → BusLog → BusLog → Type 0 where
+  -- without a log and a stop address it is the call's limit
+  unwatched : {log : BusLog} → s.inputs.stop_address ≡ None → BeforeStretch s done m p false (Ok s.limit) log log
   -- the log is full
-  full : {log : BusLog} → Full (free_if true log) → NotesAhead m p done limit true None log log
-  -- it is not: the accesses of the coming step are appended, none if it will stop, and the stretch is that step
-  has_room : {before after : BusLog} → NotFull (free_if true before)
-      → ((inputs : Inputs) → Logged true (completed_accesses (one_step inputs m p)) before after)
-      → NotesAhead m p done limit true (Some (done + 1)) before after
+  full : {log : BusLog} → Full (free_if true log) → BeforeStretch s done m p true (Err LogFull) log log
+  -- it is not, and the step stops before the stop address
+  at_address : {is_lent : Bool} {log : BusLog} → NotFull (free_if is_lent log) → stops_before_of m s.inputs ≡ true
+      → BeforeStretch s done m p is_lent (Err (Step AtAddress)) log log
+  -- neither: the accesses of the coming step are appended to a log, none if it will stop, and the stretch is that step
+  one_step_alone : {is_lent : Bool} {before after : BusLog} → NotFull (free_if is_lent before) → stops_before_of m s.inputs ≡ false
+      → Logged is_lent (completed_accesses (one_step s.inputs m p)) before after
+      → BeforeStretch s done m p is_lent (Ok (done + 1)) before after
 
 -- IR1 and timer reached as they were before
 unfoldable pub unmoved_of : Lh5801 → Lh5801 → Lh5801

@@ -1,5 +1,5 @@
 -- What a step is given besides the record and the pages.
-use Rattle.std.specs.Prelude.{ℕ, Bool, false, cond, Option, Some, None, ◌==◌}
+use Rattle.std.specs.Prelude.{ℕ, Bool, false, Option, Some, None, ◌==◌}
 use Rattle.execution.specs.declared.Inputs.{Inputs}
 
 -- the keyboard byte, the idle figure of document 02's F-1, 0 to 255, and F-5's stop address, if one is given
@@ -9,10 +9,6 @@ inputs_of key idle stop = record { keyboard = key; idle = idle; stop_address = s
 -- the keyboard byte, and nothing else asked for
 abbrev pub of_keyboard : ℕ → Inputs
 of_keyboard key = inputs_of key 0 None
-
--- a stop address that is given or not, by a flag
-abbrev pub address_if : Bool → ℕ → Option ℕ
-address_if given address = cond given (Some address) None
 
 -- "P equals the stop address"; where none is given it does not
 abbrev pub equals_address : Option ℕ → ℕ → Bool

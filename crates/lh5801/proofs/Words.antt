@@ -25,7 +25,7 @@ taken_within words = (omega arith, (omega arith, (omega arith, (omega arith, (om
 pub words_within : (r : Answer) → AllWithin widths (record_numbers r.cpu) → end_byte r.end ≤ 255 → r.steps ≤ 2 ^ 32 - 1 → r.states ≤ 2 ^ 64 - 1
     → AllWithin word_widths (words_of r)
 words_within r h byte steps states =
-    within_append widths (record_numbers r.cpu) (11 ∷ 255 ∷ (2 ^ 32 - 1) ∷ (2 ^ 64 - 1) ∷ []) (end_number r.end ∷ end_byte r.end ∷ r.steps ∷ r.states ∷ []) refl h
+    within_append widths (record_numbers r.cpu) (12 ∷ 255 ∷ (2 ^ 32 - 1) ∷ (2 ^ 64 - 1) ∷ []) (end_number r.end ∷ end_byte r.end ∷ r.steps ∷ r.states ∷ []) refl h
     (number_most r.end, (byte, (steps, (states, tt))))
 
 taken_back : (r : Answer) → AllWithin word_widths (words_of r) → taken_of (words_of r) ≡ record_numbers r.cpu

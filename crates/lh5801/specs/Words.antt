@@ -26,7 +26,7 @@ words_of r = record_numbers r.cpu ++ (end_number r.end ∷ end_byte r.end ∷ r.
 
 -- the greatest values of the words that come back
 abbrev pub word_widths : List ℕ
-word_widths = widths ++ (11 ∷ 255 ∷ (2 ^ 32 - 1) ∷ (2 ^ 64 - 1) ∷ [])
+word_widths = widths ++ (12 ∷ 255 ∷ (2 ^ 32 - 1) ∷ (2 ^ 64 - 1) ∷ [])
 
 -- what the entry leaves: the words, the pages and the log of the definition's call; a list and a count that are not lent as a log stay as they are. A
 -- call that is passed these words starts from the record that this one ended with

@@ -2,6 +2,7 @@
 #![tactic(auto)]
 
 ghost use Rattle.std.specs.Prelude.{◌≡◌};
+ghost use Rattle.std.specs.Bool.{then_some};
 ghost use Rattle.pages.specs.Pages.{pages, read_only_of};
 ghost use Rattle.execution.specs.Inputs.{inputs_of};
 ghost use Rattle.run.specs.RecordNumbers.{AllWithin};
@@ -53,7 +54,7 @@ fn words_of(r: Answer) -> [u64; 16]
 }
 
 /// The run call; the used count after it is returned. `logged` says whether the log is lent. In C: lh5801_call(words, page0, length0, page1, length1, limit, keyboard, idle, logged, log,
-/// log_length, log_used, read_only_first, read_only_end).
+/// log_length, log_used, read_only_first, read_only_end, stop_given, stop_address).
 #[unsafe(no_mangle)]
 pub extern "C" fn lh5801_call(
     words: &mut [u64; 16],
@@ -70,7 +71,7 @@ pub extern "C" fn lh5801_call(
     stop_given: bool,
     stop_address: u16,
 ) -> usize
-    ensures { Left (call_of (settings (inputs_of keyboard idle) limit) (free_in (lent_if logged (log_of log.old log_used))) (cpu_of words.old) (pages page0.old page1.old (read_only_of read_only_first read_only_end))) logged (log_of log.old log_used) (log_of log.new result) words.new (pages page0.new page1.new (read_only_of read_only_first read_only_end)) }
+    ensures { Left (call_of (settings (inputs_of keyboard idle (then_some stop_given stop_address)) limit) (free_in (lent_if logged (log_of log.old log_used))) (cpu_of words.old) (pages page0.old page1.old (read_only_of read_only_first read_only_end))) logged (log_of log.old log_used) (log_of log.new result) words.new (pages page0.new page1.new (read_only_of read_only_first read_only_end)) }
 {
     let numbers = taken(words);
     let cpu = record_numbers::record_of(&numbers);

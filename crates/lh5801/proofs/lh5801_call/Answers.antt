@@ -11,5 +11,5 @@ record_of-cpu-requires c = rw c.taken-numbers.ensures (omega arith, taken_within
 
 pub returns : goal.returns
 returns c =
-    let a = rw (c.record_of-cpu.ensures, c.taken-numbers.ensures) at c.run-answer.ensures in
+    let a = rw (c.record_of-cpu.ensures, c.taken-numbers.ensures, c.then_some.ensures) at c.run-answer.ensures in
     left a.answers (ap (λ l. log_of l c.run-answer.new.log.used) (search rules) ∙ a.logged.log) c.words_of.ensures

@@ -1,5 +1,5 @@
 -- The accesses that specs/Code/Shapes.antt computes ahead of a step are those that the step makes.
-use Rattle.std.proofs.Common.{◌≡◌, ℕ, ◌+◌, ◌/◌, ◌%◌, ◌≤◌, Bool, true, false, cond, ◌&&◌, ◌||◌, eqb, List, [], ◌∷◌, ◌++◌, length, refl, ap, ◌∙◌, append-nil, true≢false, arith}
+use Rattle.std.proofs.Common.{◌≡◌, ℕ, ◌+◌, ◌/◌, ◌%◌, ◌≤◌, Bool, true, false, cond, ◌&&◌, ◌||◌, eqb, List, [], ◌∷◌, ◌++◌, length, sym, refl, ap, ◌∙◌, append-nil, true≢false, arith}
 use Rattle.arithmetic.specs.declared.record.Lh5801.{Lh5801}
 use Rattle.arithmetic.specs.Record.{with_p, with_s, with_t, with_ir1, with_ir2, with_is_timer_reached}
 use Rattle.arithmetic.specs.Flags.{IE, has_flag}
@@ -27,14 +27,17 @@ use Rattle.execution.specs.Places.{locate_of, operand_of}
 use Rattle.execution.specs.Instructions.{operated, alu_of, store_of, sta_of, memory_of, bii_of, drr_of, drl_of, load_of, compare_of, store_at_of, load_at_of, sin_of, sde_of, lin_of, lde_of, holds_of, branch_of, lop_of, vector_of, vector_if_of, jmp_of, sjp_of, rtn_of, rti_of, load_sOf, tin_of, cin_of, pop_to_of, push_from_of, execute_of}
 use Rattle.execution.specs.States.{added_of}
 use Rattle.execution.specs.Step.{StepEnd, did, stopped, instruction, fetched, fetch_of, decoded_by, decoded_step_of, instruction_of, interrupt_of, reached_of, halted_of, due_instruction_of, powered_of, step_of}
-use Rattle.execution.specs.Inputs.{stops_at}
-use Rattle.execution.specs.Code.Due.{due_by, stops_before_of}
+use Rattle.execution.specs.Inputs.{without_stop, stops_at}
+use Rattle.execution.specs.Conditions.{AddressStop}
+use Rattle.execution.specs.Code.Due.{stops_before_of}
 use Rattle.execution.specs.Completed.{of_completed, completed_accesses}
 use Rattle.execution.specs.Code.Shapes.{opcode_at, bytes_from, after_write, after_push_word, vector_accesses, accept_accesses, place_accesses, vector_if_accesses, shape_accesses, operand_shape, store_shape, shape_of, shape_in, shape_by, opcode_accesses, fetched_accesses, instruction_accesses, powered_accesses, step_accesses}
 use Rattle.execution.proofs.Choices.{cond_both}
 use Rattle.execution.proofs.OpcodeRead.{fetch_answer, fetch_pages}
 use Rattle.execution.proofs.Ways.{moved}
 use Rattle.execution.proofs.Accesses.{step_accesses_lem}
+use Rattle.execution.proofs.DueTest.{stops_before_is}
+use Rattle.execution.proofs.WithoutStop.{step_same}
 
 -- a read after a write
 read_after_write : (m : Pages) (s v a : ℕ) → at (store m s v) a ≡ after_write m s v a (at m a)
@@ -202,36 +205,18 @@ unfolding instruction_accesses due_accesses locate_of with_ir1 with_is_timer_rea
 reached_accesses m inputs pages true = powered_accesses_lem (moved m) inputs pages
 reached_accesses m inputs pages false = powered_accesses_lem m inputs pages
 
--- where the step does not stop before an instruction, it is the instruction's accesses that count
-module _ (l k n : List Access) where
-  unstopped : (at bf ir0 ir1 reached ir2 enabled halted : Bool) → at && due_by bf ir0 ir1 reached ir2 enabled halted ≡ false
-      → cond bf (cond ir0 [] (cond ((reached || ir1) && enabled) l (cond (ir2 && enabled) k (cond halted [] (cond at [] n))))) []
-      ≡ cond bf (cond ir0 [] (cond ((reached || ir1) && enabled) l (cond (ir2 && enabled) k (cond halted [] n)))) []
-  unstopped false bf ir0 ir1 reached ir2 enabled halted e = refl
-  unstopped true false ir0 ir1 reached ir2 enabled halted e = refl
-  unstopped true true true ir1 reached ir2 enabled halted e = refl
-  unstopped true true false ir1 true ir2 true halted e = refl
-  unstopped true true false true false ir2 true halted e = refl
-  unstopped true true false false false true true halted e = refl
-  unstopped true true false ir1 reached ir2 enabled true e = refl
-  unstopped true true false false false false true false e = absurd (true≢false e)
-  unstopped true true false true true true false false e = absurd (true≢false e)
-  unstopped true true false true true false false false e = absurd (true≢false e)
-  unstopped true true false true false true false false e = absurd (true≢false e)
-  unstopped true true false true false false false false e = absurd (true≢false e)
-  unstopped true true false false true true false false e = absurd (true≢false e)
-  unstopped true true false false true false false false e = absurd (true≢false e)
-  unstopped true true false false false true false false e = absurd (true≢false e)
-  unstopped true true false false false false false false e = absurd (true≢false e)
+-- the accesses of a completed step, and none of one that stops, are those computed ahead, whatever the inputs are but for a stop address at P
+unaddressed_accesses : (m : Lh5801) (inputs : Inputs) (pages : Pages)
+    → completed_accesses (exec (step_of m (without_stop inputs)) pages) ≡ step_accesses m pages (instruction_accesses m pages)
+unfolding step_of reached_of due_accesses exec
+unaddressed_accesses m inputs pages =
+    completed_cond pages m.bf _ _ ∙ cond_each m.bf (reached_accesses m (without_stop inputs) pages m.is_timer_reached) refl
 
--- the accesses of a completed step, and none of one that stops, are those computed ahead, whatever else the inputs are
 pub step_accesses_ahead : (m : Lh5801) (inputs : Inputs) (pages : Pages) → stops_before_of m inputs ≡ false
     → completed_accesses (exec (step_of m inputs) pages) ≡ step_accesses m pages (instruction_accesses m pages)
-unfolding step_of reached_of due_accesses exec
 step_accesses_ahead m inputs pages e =
-    completed_cond pages m.bf _ _
-    ∙ cond_each m.bf (reached_accesses m inputs pages m.is_timer_reached) refl
-    ∙ unstopped _ _ _ (stops_at inputs m.p) m.bf m.ir0 m.ir1 m.is_timer_reached m.ir2 (has_flag m.t IE) m.is_halted e
+    let n : ¬ AddressStop inputs m = λ s. true≢false (sym ((stops_before_is m inputs).1 s) ∙ e) in
+    ap (λ (p : Prog StepEnd). completed_accesses (exec p pages)) (sym (step_same inputs m n)) ∙ unaddressed_accesses m inputs pages
 
 -- at most seven
 pub completed_few : (m : Lh5801) (inputs : Inputs) (pages : Pages) → length (completed_accesses (exec (step_of m inputs) pages)) ≤ 7

@@ -14,6 +14,7 @@ pub mod Accesses
 pub mod AccessesAhead
 pub mod StopsClean
 pub mod Tests
+pub mod WithoutStop
 pub mod StopConditions
 pub mod Waiting
 pub mod ReadOrder

@@ -31,7 +31,7 @@ module _ (m : Lh5801) where
   lines : Requested m true false (moved m)
   lines = requested m true false
 
-  reached_ir0 : (reached_of m).ir0 ≡ m.ir0
+  pub reached_ir0 : (reached_of m).ir0 ≡ m.ir0
   reached_ir0 = reached_same (λ k. k.ir0) (ap (λ (s : Status). s.ir0) lines.is)
 
   reached_ir2 : (reached_of m).ir2 ≡ m.ir2
@@ -55,14 +55,14 @@ module _ (m : Lh5801) where
       go false = sym (or-false m.ir1)
 
   -- a step's two tests for an interrupt
-  one : Bool
+  pub one : Bool
   one = (reached_of m).ir1 && has_flag (reached_of m).t IE
 
-  two : Bool
+  pub two : Bool
   two = (reached_of m).ir2 && has_flag (reached_of m).t IE
 
   -- with BF set and IR0 clear an interrupt is accepted where one of the two holds
-  accepted_by : m.bf ≡ true → m.ir0 ≡ false → accepted m ≡ one || two
+  pub accepted_by : m.bf ≡ true → m.ir0 ≡ false → accepted m ≡ one || two
   unfolding one two
   accepted_by b z =
       opened m.bf m.ir0 _ _ b z
@@ -83,13 +83,13 @@ module _ (m : Lh5801) where
     held_step b z = subst (Always IsActive) (sym (cond_true m.bf _ _ b ∙ cond_true (reached_of m).ir0 _ _ (reached_ir0 ∙ z))) tt
 
     -- else the two tests decide, and then halted
-    tested : Bool → Bool → Prog StepEnd
+    unfoldable pub tested : Bool → Bool → Prog StepEnd
     tested i j =
         cond i (interrupt_of (with_ir1 (reached_of m) false) 0xFFFA)
         (cond j (interrupt_of (with_ir2 (reached_of m) false) 0xFFF8)
         (cond (reached_of m).is_halted (done (halted_of (reached_of m) inputs)) (due_instruction_of (reached_of m) inputs)))
 
-    tested_step : m.bf ≡ true → m.ir0 ≡ false → step_of m inputs ≡ tested one two
+    pub tested_step : m.bf ≡ true → m.ir0 ≡ false → step_of m inputs ≡ tested one two
     unfolding step_of powered_of one two tested
     tested_step b z = cond_true m.bf _ _ b ∙ cond_false (reached_of m).ir0 _ _ (reached_ir0 ∙ z)
 

@@ -15,5 +15,9 @@ abbrev pub equals_address : Option ℕ → ℕ → Bool
 equals_address None p = false
 equals_address (Some address) p = address == p
 
+-- the same inputs without a stop address
+abbrev pub without_stop : Inputs → Inputs
+without_stop inputs = record inputs { stop_address = None }
+
 abbrev pub stops_at : Inputs → ℕ → Bool
 stops_at inputs p = equals_address inputs.stop_address p

@@ -11,11 +11,11 @@ use Rattle.bus.proofs.Notes.{noted_fits}
 use Rattle.run.specs.declared.Settings.{Settings}
 use Rattle.run.specs.Acceptance.{Accepted}
 use Rattle.run.specs.BusLog.{Log, free_in, free_after, with_entries, lent_if, appended_if, Full}
-use Rattle.run.specs.Run.{CallResult, no_step, completed, one_step, run_of, call_of, settings}
+use Rattle.run.specs.Run.{CallResult, no_step, completed, join, one_step, run_of, call_of, settings}
 use Rattle.run.specs.Demand.{sum, AtLeastOne}
 use Rattle.run.specs.CutLog.{left_after, log_after, log_after_all, CutLog}
 use Rattle.run.proofs.BusLog.{appended_none, log_used, free_left, left_then}
-use Rattle.run.proofs.Steps.{join, run_each, run_split}
+use Rattle.run.proofs.Steps.{run_each, run_split}
 use Rattle.run.proofs.Acceptance.{limit_some, call_run, call_each}
 use Rattle.run.proofs.Demand3.{first_accepted, rest_accepted}
 

@@ -10,9 +10,9 @@ use Rattle.pages.proofs.Exec.{writes_none, writes_append}
 use Rattle.run.specs.declared.Settings.{Settings}
 use Rattle.run.specs.Acceptance.{Accepted}
 use Rattle.run.specs.BusLog.{free_after}
-use Rattle.run.specs.Run.{CallResult, writes_of, run_of, settings, calls_of}
+use Rattle.run.specs.Run.{CallResult, writes_of, join, run_of, settings, calls_of}
 use Rattle.run.specs.Demand.{sum, AtLeastOne, AllAccepted, SameAsRun, Demand3}
-use Rattle.run.proofs.Steps.{run_written, join, run_split, SameButPages, run_agree}
+use Rattle.run.proofs.Steps.{run_written, run_split, SameButPages, run_agree}
 use Rattle.run.proofs.Acceptance.{limit_some, limit_most, call_run}
 use Rattle.run.proofs.Ends.{run_reaches, reaches_small}
 

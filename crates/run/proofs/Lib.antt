@@ -17,4 +17,5 @@ pub mod Marked
 pub mod AccessOrders
 pub mod Waiting
 pub mod Protected
+pub mod StopAddress
 pub mod Widths

@@ -13,7 +13,7 @@ use Rattle.execution.specs.Step.{Kind, StepEnd, did, stopped, step_of}
 use Rattle.run.specs.declared.End.{End}
 use Rattle.run.specs.declared.End.TheVariants.{AllSteps, LogFull, Step}
 use Rattle.run.specs.BusLog.{log_full, free_after, Full, NotFull}
-use Rattle.run.specs.Run.{CallResult, call_result, writes_of, no_step, completed, one_step, onward, run_of, accesses_after, accesses_of}
+use Rattle.run.specs.Run.{CallResult, call_result, writes_of, no_step, completed, join, one_step, onward, run_of, accesses_after, accesses_of}
 use Rattle.run.proofs.BusLog.{after_none, after_append}
 
 -- before the first step of a call the log is full; or the step is completed, or stops
@@ -91,11 +91,6 @@ run_written n inputs =
     (λ n free m p k t kind f e h. rw (writes_append (one_step inputs m p).accesses) (written_then (exec_written (step_of m inputs) p) h))
     n
 
--- the result of a call, and then another from what it left
-unfoldable pub join : CallResult → CallResult → CallResult
-join x y =
-    call_result y.answer.end (x.answer.steps + y.answer.steps) (x.answer.states + y.answer.states) y.answer.cpu y.pages (x.bus ++ y.bus)
-
 join_no_step : (e : End) (m : Lh5801) (p : Pages) (y : CallResult) → join (no_step e m p) y ≡ y
 unfolding join no_step
 join_no_step e m p y = simp zero-add
@@ -105,14 +100,14 @@ unfolding join completed
 join_completed t l x y = simp (suc-add, add_assoc, append_assoc)
 
 -- the result of a call with so many free entries, and then more steps
-more : ℕ → Inputs → Option ℕ → CallResult → CallResult
+unfoldable pub more : ℕ → Inputs → Option ℕ → CallResult → CallResult
 more n inputs free x = join x (run_of n inputs (free_after free x.bus) x.answer.cpu x.pages)
 
-more_no_step : (n : ℕ) (inputs : Inputs) (free : Option ℕ) (e : End) (m : Lh5801) (p : Pages) → more n inputs free (no_step e m p) ≡ run_of n inputs free m p
+pub more_no_step : (n : ℕ) (inputs : Inputs) (free : Option ℕ) (e : End) (m : Lh5801) (p : Pages) → more n inputs free (no_step e m p) ≡ run_of n inputs free m p
 unfolding more no_step
 more_no_step n inputs free e m p = join_no_step e m p _ ∙ ap (λ (f : Option ℕ). run_of n inputs f m p) (after_none free)
 
-more_completed : (n : ℕ) (inputs : Inputs) (free : Option ℕ) (t : ℕ) (l : List Access) (x : CallResult)
+pub more_completed : (n : ℕ) (inputs : Inputs) (free : Option ℕ) (t : ℕ) (l : List Access) (x : CallResult)
     → more n inputs free (completed t l x) ≡ completed t l (more n inputs (free_after free l) x)
 unfolding more completed
 more_completed n inputs free t l x =

@@ -16,3 +16,4 @@ pub mod Marked
 pub mod AccessOrders
 pub mod Waiting
 pub mod Protected
+pub mod StopAddress

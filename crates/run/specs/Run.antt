@@ -36,6 +36,11 @@ unfoldable pub completed : ℕ → List Access → CallResult → CallResult
 completed states l o =
     call_result o.answer.end (suc o.answer.steps) (states + o.answer.states) o.answer.cpu o.pages (l ++ o.bus)
 
+-- the result of a call, and then another from what it left: its end, record and pages, the steps and states of both, and the accesses of both in order
+unfoldable pub join : CallResult → CallResult → CallResult
+join x y =
+    call_result y.answer.end (x.answer.steps + y.answer.steps) (x.answer.states + y.answer.states) y.answer.cpu y.pages (x.bus ++ y.bus)
+
 -- what one step comes to
 abbrev pub one_step : Inputs → Lh5801 → Pages → Ran StepEnd
 one_step inputs m p = exec (step_of m inputs) p

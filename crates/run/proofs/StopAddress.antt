@@ -1,27 +1,30 @@
 -- A run that ends with 12 is a beginning of the run without a stop address and did not pass over it; any other is that run.
-use Rattle.std.proofs.Common.{◌≡◌, ℕ, zero, suc, ◌+◌, ◌<◌, ◌≤◌, ◌≢◌, ◌↔◌, List, [], ◌++◌, sym, refl, ap, ◌∙◌, subst, ⊎_elim, true≢false, le_of_suc-le-suc, arith}
-use Rattle.std.specs.Prelude.{Option}
+use Rattle.std.proofs.Common.{◌≡◌, ℕ, zero, suc, ◌+◌, ◌<◌, ◌≤◌, ◌≢◌, ◌↔◌, List, [], ◌++◌, map, sym, refl, ap, ◌∙◌, subst, ⊎_elim, true≢false, le_of_suc-le-suc, arith}
+use Rattle.std.specs.Prelude.{Option, Some}
 use Rattle.arithmetic.specs.declared.record.Lh5801.{Lh5801}
 use Rattle.execution.specs.declared.Inputs.{Inputs}
 use Rattle.execution.specs.declared.Stop.{Stop}
 use Rattle.execution.specs.declared.Stop.TheVariants.{AtAddress}
-use Rattle.execution.specs.Inputs.{without_stop}
+use Rattle.execution.specs.Inputs.{inputs_of, without_stop}
 use Rattle.execution.specs.Step.{Kind, StepEnd, did, stopped}
 use Rattle.execution.specs.Conditions.{AddressStop}
 use Rattle.execution.proofs.StopConditions.{stops_12}
 use Rattle.execution.proofs.WithoutStop.{step_same}
-use Rattle.pages.specs.Pages.{Pages}
+use Rattle.pages.specs.Pages.{Pages, at, inside, protected, stored, set_byte, store}
+use Rattle.pages.specs.Timer.{shift_of, timer_inc_of}
+use Rattle.pages.specs.Written.{writes}
 use Rattle.pages.specs.Prog.{Access, Ran, Prog, exec}
 use Rattle.run.specs.declared.Settings.{Settings}
 use Rattle.run.specs.declared.End.{End}
 use Rattle.run.specs.declared.End.TheVariants.{AllSteps, LogFull, Step}
-use Rattle.run.specs.Acceptance.{Accepted}
+use Rattle.run.specs.Acceptance.{Accepted, not_accepted}
 use Rattle.run.specs.BusLog.{free_after, Full, NotFull}
-use Rattle.run.specs.Run.{CallResult, call_result, no_step, completed, join, one_step, run_of, call_of, settings}
+use Rattle.run.specs.Run.{CallResult, call_result, no_step, completed, join, one_step, onward, run_of, call_unless, call_of, settings}
 use Rattle.run.specs.Reaches.{Reaches, start, next}
-use Rattle.run.specs.StopAddress.{without_address, NotPassed, StopsThere}
+use Rattle.run.specs.StopAddress.{without_address, NotPassed, StopsThere, code, AddressStep, address_steps, AddressCall, address_calls}
 use Rattle.run.proofs.Acceptance.{limit_some, limit_most, call_run}
 use Rattle.run.proofs.BusLog.{after_none}
+use Rattle.run.proofs.AccessOrders.{stepped}
 use Rattle.run.proofs.Calls.{completes_with, stops_with}
 use Rattle.run.proofs.Steps.{run_full, run_did, run_stop, run_each, more, more_no_step, more_completed}
 
@@ -188,3 +191,13 @@ module _ (s : Settings) (free : Option ℕ) (m : Lh5801) (p : Pages) (h : Accept
         there = a;
         not_passed = λ i k q t l b x. absurd (omega (arith, b));
       })
+
+-- the cases of specs/StopAddress.antt
+pub address_steps_hold : map (λ (c : AddressStep). stepped (inputs_of 0 c.idle c.stop) c.cpu code) address_steps ≡ map (λ (c : AddressStep). c.comes) address_steps
+unfolding address_steps stepped shift_of timer_inc_of at inside protected stored set_byte store
+address_steps_hold = refl
+
+pub address_calls_hold : map (λ (c : AddressCall). call_of (settings (inputs_of 0 0 (Some c.stop)) c.limit) c.free c.cpu code) address_calls
+    ≡ map (λ (c : AddressCall). c.comes) address_calls
+unfolding address_calls writes not_accepted no_step completed onward run_of call_unless call_of stepped shift_of timer_inc_of at inside protected stored set_byte store
+address_calls_hold = refl

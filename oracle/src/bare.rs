@@ -98,6 +98,11 @@ pub trait Watch {
     fn waiting(&mut self, _idle: u8) {}
     /// A listed byte of the first page (0) or after FD (1) is executed.
     fn executed(&mut self, _page: usize, _byte: u8) {}
+    /// Before an instruction at this address the call stops with 12 (document 02, F-5). It is told
+    /// here, and not by the inputs, so that a run that is measured has no such test.
+    fn stop_address(&self) -> Option<u16> {
+        None
+    }
 }
 
 /// Watches nothing.
@@ -134,7 +139,7 @@ impl Pc1500 {
         }
     }
 
-    /// Document 01's run call. 1 to 7 are this harness's own.
+    /// Document 01's run call. 1 to 7 and 12 are this harness's own. The stop address is the watch's.
     #[inline(never)]
     pub fn original_run<W: Watch>(&mut self, limit: u32, watch: &mut W) -> Returned {
         let lengths = [self.page0.len(), self.page1.len()];
@@ -172,6 +177,9 @@ impl Pc1500 {
         }
         if unit.is_halted() {
             return self.halted(watch);
+        }
+        if watch.stop_address() == Some(unit.p()) {
+            return Some((12, 0));
         }
         self.unlisted(listed, watch)
     }

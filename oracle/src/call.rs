@@ -70,11 +70,22 @@ impl Record {
     }
 
     /// The next step is a halted one, document 02's term: BF set, halted, IR0 clear, no interrupt
-    /// accepted. A reached timer counts as IR1.
+    /// accepted.
     pub fn begins_halted_step(&self) -> bool {
+        self.bf && self.is_halted && !self.ir0 && !self.accepts_interrupt()
+    }
+
+    /// The next step executes an instruction, or stops with 5, 6 or 12 in place of it: BF set, IR0
+    /// clear, no interrupt accepted, not halted. The harness's own; the model has another writing
+    /// of it.
+    pub fn is_instruction_due(&self) -> bool {
+        self.bf && !self.is_halted && !self.ir0 && !self.accepts_interrupt()
+    }
+
+    /// An interrupt is requested, and IE is set. A reached timer counts as IR1.
+    fn accepts_interrupt(&self) -> bool {
         let requested = self.is_timer_reached || self.ir1 || self.ir2;
-        let accepted = requested && self.t & 0x02 != 0;
-        self.bf && self.is_halted && !self.ir0 && !accepted
+        requested && self.t & 0x02 != 0
     }
 }
 
@@ -96,13 +107,20 @@ pub struct Inputs {
     pub keyboard: u8,
     /// The states that a halted step waits; with 0 it stops with 7. Document 02, F-1.
     pub idle: u8,
+    /// Before an instruction at this address the call stops with 12. Document 02, F-5.
+    pub stop_address: Option<u16>,
 }
 
 impl Inputs {
     /// What a caller gets who gives a keyboard byte and asks for nothing else: the calls of a
     /// campaign file and of a list.
     pub fn of_keyboard(keyboard: u8) -> Inputs {
-        Inputs { keyboard, idle: 0 }
+        Inputs { keyboard, ..Inputs::default() }
+    }
+
+    /// The same without a stop address.
+    pub fn without_stop(self) -> Inputs {
+        Inputs { stop_address: None, ..self }
     }
 }
 

@@ -14,10 +14,13 @@ use crate::model::Model;
 use crate::opcodes::table;
 use crate::original::Original;
 use crate::progress::Progress;
-use crate::protect;
 use crate::random::Random;
 use crate::read_only;
 use crate::shrink;
+use crate::stop_addresses;
+use crate::stop_counts::Stops;
+use crate::stop_law;
+use crate::stops;
 use crate::traces::Traces;
 use crate::waits::Waits;
 
@@ -34,7 +37,8 @@ impl Comparison {
     }
 
     /// The original's answer with its vector reads in document 01's order, the side's answer, and
-    /// the first difference: between these two, or else between the original and the model.
+    /// the first difference: between these two, or else between the original and the model, or else
+    /// between the call and the same call without its stop address.
     pub fn both(&mut self, call: &Call) -> (Answer, Answer, Option<String>) {
         let mut original = self.original.call(call);
         let model = self.model.call(call);
@@ -44,11 +48,32 @@ impl Comparison {
             let model = difference(&original, &model);
             model.map(|how| format!("original and model: {how}"))
         });
+        let difference = difference.or_else(|| self.broken(call, &original, &other));
         (original, other, difference)
+    }
+
+    /// What is wrong beside the run without the stop address: of the original, then of the side.
+    fn broken(&mut self, call: &Call, original: &Answer, other: &Answer) -> Option<String> {
+        let own = stop_law::broken(call, original, &mut Ordered);
+        let own = own.map(|how| format!("original: {how}"));
+        own.or_else(|| stop_law::broken(call, other, self.side.as_mut()))
     }
 
     pub fn differs(&mut self, call: &Call) -> bool {
         self.both(call).2.is_some()
+    }
+}
+
+/// The original with its vector reads in document 01's order.
+struct Ordered;
+
+impl Side for Ordered {
+    fn name(&self) -> &'static str {
+        "original"
+    }
+
+    fn call(&mut self, call: &Call) -> Answer {
+        ordered_original(call)
     }
 }
 
@@ -174,7 +199,7 @@ pub struct Logs {
     pub busy: u64,
     pub entries: u64,
     /// By their number.
-    pub ends: [u64; 12],
+    pub ends: [u64; 13],
 }
 
 impl Logs {
@@ -198,9 +223,9 @@ impl Logs {
         self.ends.iter_mut().zip(other.ends).for_each(|(left, right)| *left += right);
     }
 
-    /// Whether calls with a log have ended with every number that a call has.
+    /// Whether calls with a log have ended with every number that a call without a stop address has.
     pub fn has_every_end(&self) -> bool {
-        CALL_NUMBERS.iter().all(|number| self.ends[*number] > 0)
+        CALL_NUMBERS.iter().all(|number| self.ends[*number] > 0 || *number == 12)
     }
 }
 
@@ -217,17 +242,17 @@ impl fmt::Display for Logs {
 }
 
 /// The numbers that a call may end with; 8 to 10 are the campaign file's.
-const CALL_NUMBERS: [usize; 9] = [0, 1, 2, 3, 4, 5, 6, 7, 11];
+const CALL_NUMBERS: [usize; 10] = [0, 1, 2, 3, 4, 5, 6, 7, 11, 12];
 
 /// How many calls ended with each number.
-pub fn ends_in_words(ends: &[u64; 12]) -> String {
+pub fn ends_in_words(ends: &[u64; 13]) -> String {
     CALL_NUMBERS.iter().map(|number| format!(" {number}: {}", ends[*number])).collect()
 }
 
 /// What the calls of a comparison have reached.
 struct Counts {
     steps: u64,
-    stops: [u64; 12],
+    stops: [u64; 13],
     logs: Logs,
     /// How often each byte was executed, by page.
     executed: [[u64; 256]; 2],
@@ -237,13 +262,14 @@ struct Counts {
     most_accesses: usize,
     waits: Waits,
     drops: Drops,
+    stop_addresses: Stops,
 }
 
 impl Counts {
     fn new() -> Counts {
         Counts {
             steps: 0,
-            stops: [0; 12],
+            stops: [0; 13],
             logs: Logs::default(),
             executed: [[0; 256]; 2],
             unlisted: [[0; 256]; 2],
@@ -251,6 +277,7 @@ impl Counts {
             most_accesses: 0,
             waits: Waits::default(),
             drops: Drops::default(),
+            stop_addresses: Stops::default(),
         }
     }
 
@@ -260,6 +287,7 @@ impl Counts {
         self.stops[usize::from(answer.number)] += 1;
         self.logs.add(call, answer);
         self.drops.add(call, answer);
+        self.stop_addresses.add(call, answer);
         if let 5 | 6 = answer.number {
             self.unlisted[usize::from(answer.number - 5)][usize::from(answer.byte)] += 1;
         }
@@ -290,6 +318,7 @@ impl Counts {
         let _ =
             writeln!(text, "\ninterrupts accepted: {interrupts}; most accesses in a step: {most}");
         let _ = writeln!(text, "{}\n{}\n{}", self.waits, self.logs, self.drops);
+        let _ = writeln!(text, "{}", self.stop_addresses);
         for (page, name) in ["first page", "after FD"].into_iter().enumerate() {
             let reached = |counts: &[u64; 256]| counts.iter().filter(|count| **count > 0).count();
             let listed = table()[page].iter().flatten().count();
@@ -309,22 +338,23 @@ impl Counts {
     }
 }
 
-/// In a run of so many calls read-only parts have to have done all that they can do.
+/// In a run of so many calls read-only parts and stop addresses have to have done all that they can
+/// do.
 const MANY: u64 = 5000;
 
-/// Runs the comparison; true where no difference was found, and read-only parts came as they have
-/// to.
+/// Runs the comparison; true where no difference was found, and read-only parts and stop addresses
+/// came as they have to.
 pub fn run(calls: u64, seed: u64, side: Box<dyn Side>) -> bool {
     println!("seed {seed}, original against {}", side.name());
     let mut comparison = Comparison::new(side);
-    let directed = [run_halted, run_logs, run_read_only];
+    let directed = [run_halted, run_logs, run_read_only, run_stops];
     if !directed.into_iter().all(|run| run(&mut comparison)) {
         return false;
     }
     let mut counts = Counts::new();
     let mut progress = Progress::new("call", calls);
     for index in 0..calls {
-        let call = protect::call(&mut Random::new(seed, index));
+        let call = stop_addresses::call(&mut Random::new(seed, index));
         let (original, _, difference) = comparison.both(&call);
         if difference.is_some() {
             progress.wipe();
@@ -338,11 +368,16 @@ pub fn run(calls: u64, seed: u64, side: Box<dyn Side>) -> bool {
     progress.wipe();
     print!("{}", counts.report());
     println!("{calls} calls, {} steps, 0 differences", counts.steps);
-    let reached = calls < MANY || counts.drops.have_all();
-    if !reached {
-        println!("the read-only parts did not do all that they have to");
+    calls < MANY || have_all(&counts.drops, &counts.stop_addresses)
+}
+
+/// Whether read-only parts and stop addresses have done all that they can do; says where not.
+pub fn have_all(drops: &Drops, stops: &Stops) -> bool {
+    let all = [(drops.have_all(), "read-only parts"), (stops.have_all(), "stop addresses")];
+    for (_, what) in all.iter().filter(|(done, _)| !done) {
+        println!("the {what} did not do all that they have to");
     }
-    reached
+    all.iter().all(|(done, _)| *done)
 }
 
 /// Compares a directed call; at a difference prints the smallest one and tells nothing.
@@ -405,6 +440,24 @@ fn run_read_only(comparison: &mut Comparison) -> bool {
     let reached = drops.have_all();
     if !reached {
         println!("the directed calls with a read-only part do not reach all that they have to");
+    }
+    reached
+}
+
+/// Runs the directed calls with a stop address, each one without it besides; true where no difference
+/// was found, and where they did all that they have to.
+fn run_stops(comparison: &mut Comparison) -> bool {
+    let mut counts = Stops::default();
+    for (what, calls) in stops::groups() {
+        for call in calls {
+            let Some(original) = directed(comparison, call.clone(), what) else { return false };
+            counts.add(&call, &original);
+        }
+    }
+    println!("directed: {counts}");
+    let reached = counts.have_all();
+    if !reached {
+        println!("the directed calls with a stop address do not reach all that they have to");
     }
     reached
 }

@@ -30,7 +30,7 @@ fn call(idle: u8, timer_state: u64, state: u16, t: u8) -> Call {
     let mut record = Record { t, s: 2, tm: 0x1FE, timer_state, ticks: 7, ..Record::default() };
     record.set_flags(set.sum());
     let pages = [vec![0x38; 4], vec![]];
-    Call { record, inputs: Inputs { keyboard: 0, idle }, limit: 3, pages, ..Call::default() }
+    Call { record, inputs: Inputs { idle, ..Inputs::default() }, limit: 3, pages, ..Call::default() }
 }
 
 #[cfg(test)]
@@ -88,7 +88,7 @@ mod tests {
     /// record and, where the side tells them, the number of accesses.
     fn hold(record: Record, idle: u8, expected: (u8, u64, u64, Record), accesses: usize) {
         let limit = expected.1.max(1) as u32;
-        let inputs = Inputs { keyboard: 0, idle };
+        let inputs = Inputs { idle, ..Inputs::default() };
         let call = Call { record, inputs, limit, ..Call::default() };
         for mut side in sides() {
             let answer = side.call(&call);
@@ -211,7 +211,7 @@ mod tests {
     fn a_unit_parks_itself() {
         let record = Record { bf: true, ..Record::default() };
         let pages = [vec![0xFD, 0xB1], vec![]];
-        let inputs = Inputs { keyboard: 0, idle: 5 };
+        let inputs = Inputs { idle: 5, ..Inputs::default() };
         let call = Call { record, inputs, limit: 4, pages, ..Call::default() };
         for mut side in sides() {
             let answer = side.call(&call);

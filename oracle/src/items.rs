@@ -201,7 +201,7 @@ pub struct Counts {
     /// Of the calls with a log: entries appended.
     pub entries: usize,
     /// Items by the number of their line, and those with a log.
-    pub numbers: [[u64; 2]; 12],
+    pub numbers: [[u64; 2]; 13],
     /// Calls that end with 11 after completed steps.
     pub full_later: u64,
     /// Calls with a read-only part, and what it did; those of them with a log.

@@ -200,7 +200,7 @@ fn lists() -> impl Iterator<Item = Call> {
         logs.map(move |(length, used)| {
             let mut page = code.to_vec();
             page.resize(0x20, 0x38);
-            let inputs = Inputs { keyboard: 0, idle };
+            let inputs = Inputs { idle, ..Inputs::default() };
             let bus_log = Some(garbage(length, used));
             Call {
                 record,

@@ -39,7 +39,7 @@ pub enum Slip {
     LoopTestsAfterDecrement,
 }
 
-/// A stop before or inside a step: 11, 5, 6 or 7, and the byte.
+/// A stop before or inside a step: 11, 5, 6, 7 or 12, and the byte.
 struct Stop {
     number: u8,
     byte: u8,
@@ -223,7 +223,17 @@ impl Step<'_> {
         self.r.is_halted = false;
     }
 
+    /// Document 02, F-5: "A run ends with P on it, before the opcode is read, even on the call's
+    /// first step". Every other kind of step has gone another way by now.
+    fn check_stop_address(&self) -> Result<(), Stop> {
+        match self.inputs.stop_address {
+            Some(address) if address == self.r.p => Err(Stop { number: 12, byte: 0 }),
+            _ => Ok(()),
+        }
+    }
+
     fn instruction(&mut self) -> Result<(), Stop> {
+        self.check_stop_address()?;
         let first = self.code();
         let Some(mut entry) = table()[0][usize::from(first)] else {
             return Err(Stop { number: 5, byte: first });

@@ -159,6 +159,13 @@ impl Entry {
     }
 }
 
+/// How many bytes an instruction has that begins with these two; 0 where it is unlisted.
+pub fn length(code: [u8; 2]) -> u16 {
+    let (page, byte) = if code[0] == 0xFD { (1, code[1]) } else { (0, code[0]) };
+    let entry = table()[page][usize::from(byte)];
+    entry.map_or(0, |entry| (1 + page + entry.code_bytes()) as u16)
+}
+
 const fn when(mask: u8, set: bool) -> Condition {
     Condition { mask, set }
 }

@@ -1,8 +1,8 @@
 //! The original `lh5801.rs`, included unchanged but for one name, over the flat memory.
 //!
 //! What is the original's own: a completed step, a waiting one too, and stops 5 and 6, which are
-//! its panics, and every access. What is this harness's own: 1 to 4, 7 and 11, the undoing of a
-//! step that stops, the bus log's entries, made of those accesses, the states that a halted step
+//! its panics, and every access. What is this harness's own: 1 to 4, 7, 11 and 12, the undoing of
+//! a step that stops, the bus log's entries, made of those accesses, the states that a halted step
 //! adds (`halted_states`, the one place where the build changes the included text), and everything
 //! that the file expects of the machine around it.
 
@@ -195,22 +195,27 @@ fn step(machine: &mut Pc1500) -> Result<(), Panicked> {
 pub struct Original;
 
 /// The harness's own stops before a step: 11 before every step, then 7, with the idle figure 0
-/// only.
-fn stop(answer: &Answer, idle: u8) -> Option<u8> {
+/// only, then 12, where an instruction is due at the stop address. Nothing is read for them.
+fn stop(answer: &Answer, inputs: Inputs) -> Option<u8> {
+    let record = &answer.record;
     if answer.bus_log.as_ref().is_some_and(BusLog::is_full) {
         return Some(11);
     }
-    (answer.record.begins_halted_step() && idle == 0).then_some(7)
+    if record.begins_halted_step() && inputs.idle == 0 {
+        return Some(7);
+    }
+    let is_there = inputs.stop_address == Some(record.p);
+    (record.is_instruction_due() && is_there).then_some(12)
 }
 
 impl Original {
     /// Steps until the limit or a stop; leaves the number, byte, counts, record and log in the
     /// answer.
-    fn run(machine: &mut Pc1500, limit: u32, answer: &mut Answer) {
-        for _ in 0..limit {
+    fn run(machine: &mut Pc1500, call: &Call, answer: &mut Answer) {
+        for _ in 0..call.limit {
             let before = machine.lh5801.record();
             answer.record = before;
-            if let Some(number) = stop(answer, machine.idle) {
+            if let Some(number) = stop(answer, call.inputs) {
                 answer.number = number;
                 return;
             }
@@ -248,7 +253,7 @@ impl Side for Original {
         }
         let mut machine = Pc1500::over(&call.record, call.inputs, Memory::of(call));
         let mut answer = Answer { bus_log: call.bus_log.clone(), ..Answer::default() };
-        Original::run(&mut machine, call.limit, &mut answer);
+        Original::run(&mut machine, call, &mut answer);
         let (pages, log) = machine.memory.finish(answer.steps);
         Answer { pages, log: Some(log), ..answer }
     }

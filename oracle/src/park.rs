@@ -107,7 +107,7 @@ impl Run {
     /// One call on all three.
     fn call(&mut self, idle: u8, limit: u32) -> Result<(), Box<Found>> {
         let record = self.machine.lh5801.record();
-        let inputs = Inputs { keyboard: 0, idle };
+        let inputs = Inputs { idle, ..Inputs::default() };
         let pages = [self.machine.page0.clone(), self.machine.page1.clone()];
         let call = Call { record, inputs, limit, pages, ..Call::default() };
         self.machine.begin(&record, inputs);

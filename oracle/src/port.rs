@@ -36,6 +36,8 @@ mod entry {
             log_used: usize,
             read_only_first: u32,
             read_only_end: u32,
+            stop_given: bool,
+            stop_address: u16,
         ) -> usize;
 
         pub fn lh5801_compare(
@@ -67,9 +69,11 @@ pub fn run(
     lent: Lent,
     read_only: ReadOnly,
 ) -> usize {
+    let Inputs { keyboard, idle, stop_address } = inputs;
+    // Where none is given, the address that passes is P: it must not matter.
+    let (stop_given, at) = (stop_address.is_some(), stop_address.unwrap_or(words[P] as u16));
     let (length0, length1) = (page0.len(), page1.len());
     let (words, page0, page1) = (words.as_mut_ptr(), page0.as_mut_ptr(), page1.as_mut_ptr());
-    let Inputs { keyboard, idle } = inputs;
     let ReadOnly { first, end } = read_only;
     let logged = lent.list.is_some();
     let list = lent.list.unwrap_or_default();
@@ -80,7 +84,7 @@ pub fn run(
     unsafe {
         entry::lh5801_call(
             words, page0, length0, page1, length1, limit, keyboard, idle, logged, list, length,
-            lent.used, first, end,
+            lent.used, first, end, stop_given, at,
         )
     }
 }
@@ -151,6 +155,10 @@ pub fn words(r: &Record) -> Words {
     let any = ticks ^ timer.rotate_left(29) ^ 0x9E37_79B9_7F4A_7C15;
     [a, t, x, y, u, s, p, tm, flags, timer, previous, ticks, any, !any, any, !any]
 }
+
+/// The word of P.
+#[cfg_attr(not(feature = "port"), allow(dead_code))]
+const P: usize = 6;
 
 /// The word of TM, which is not taken modulo its width: above 65,535 it counts as too large.
 const TM: usize = 7;

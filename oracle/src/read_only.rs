@@ -153,7 +153,7 @@ fn quiet() -> impl Iterator<Item = Call> {
     let held = Record { ir0: true, ..on() };
     [Record::default(), held, waiting, on()].into_iter().flat_map(|record| {
         around(0).into_iter().map(move |read_only| {
-            let inputs = Inputs { keyboard: 0, idle: 42 };
+            let inputs = Inputs { idle: 42, ..Inputs::default() };
             let pages = [vec![0x38; 8], vec![0x77; 8]];
             Call { record, inputs, limit: 5, pages, read_only, ..Call::default() }
         })

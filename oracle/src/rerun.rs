@@ -254,7 +254,7 @@ fn cut(random: &mut Random, total: u32) -> Vec<u32> {
 struct Counts {
     calls: u64,
     steps: u64,
-    stops: [u64; 12],
+    stops: [u64; 13],
     above_one_call: u64,
     after_stop: u64,
     bytes: u64,

@@ -1,5 +1,5 @@
-//! Makes a failing call smaller: fewer steps first, then the log, the read-only part and memory, then
-//! registers and flags.
+//! Makes a failing call smaller: fewer steps first, then the log, the read-only part, the stop address
+//! and memory, then registers and flags.
 
 #![forbid(unsafe_code)]
 
@@ -18,6 +18,7 @@ pub fn shrink(call: Call, fails: Fails) -> Call {
         shrink_steps(&mut best, fails);
         shrink_log(&mut best, fails);
         shrink_read_only(&mut best, fails);
+        shrink_stop(&mut best, fails);
         move_part(&mut best, fails);
         move_down(&mut best, fails);
         shrink_pages(&mut best, fails);
@@ -141,6 +142,26 @@ fn parts_like(part: ReadOnly) -> Vec<ReadOnly> {
     let with_end = ends.map(|end| ReadOnly { first, end });
     let with_first = firsts.map(|first| ReadOnly { first, end });
     [ReadOnly::default()].into_iter().chain(with_end).chain(with_first).collect()
+}
+
+/// No stop address at all, or else a smaller one.
+fn shrink_stop(best: &mut Call, fails: Fails) {
+    while let Some(address) = best.inputs.stop_address {
+        let less = [0, 1, address % 256, address / 2, address - address / 4];
+        let addresses = less.into_iter().chain([address.saturating_sub(1)]).map(Some);
+        let smaller = [None].into_iter().chain(addresses).filter(|other| *other < Some(address));
+        let candidates = smaller.map(|stop_address| with_stop(best, stop_address));
+        let candidates = candidates.collect::<Vec<_>>();
+        if !candidates.into_iter().any(|candidate| keep(best, candidate, fails)) {
+            return;
+        }
+    }
+}
+
+/// The call with this stop address, or without one.
+fn with_stop(call: &Call, stop_address: Option<u16>) -> Call {
+    let inputs = Inputs { stop_address, ..call.inputs };
+    Call { inputs, ..call.clone() }
 }
 
 /// Moves X, Y, U or S down to the pages' beginning, and the read-only part by as much.
@@ -273,7 +294,8 @@ fn shrink_timer(best: &mut Call, fails: Fails) {
 /// A register of the record.
 type Register = fn(&mut Record) -> &mut u16;
 
-/// Moves the program, and the bytes that X, Y and U point to, down to the pages' beginning.
+/// Moves the program, and the bytes that X, Y and U point to, down to the pages' beginning; with the
+/// stop address moved by as much, where that still fails.
 fn move_down(best: &mut Call, fails: Fails) {
     let registers: [(Register, usize, usize); 6] = [
         (|r| &mut r.p, 0, 8),
@@ -298,17 +320,21 @@ fn move_down(best: &mut Call, fails: Fails) {
                 }
             }
         }
-        keep(best, candidate, fails);
+        let down = (from - target) as u16;
+        let address = best.inputs.stop_address.map(|address| address.wrapping_sub(down));
+        let _ = keep(best, with_stop(&candidate, address), fails) || keep(best, candidate, fails);
     }
 }
 
-/// A call in words: record, keyboard, idle figure, limit, the read-only part's two numbers, the bytes
-/// of the pages that are not zero, and the log with its first entries that are not zero.
+/// A call in words: record, keyboard, idle figure, limit, the read-only part's two numbers, the stop
+/// address, the bytes of the pages that are not zero, and the log with its first entries that are not
+/// zero.
 pub fn describe(call: &Call) -> String {
     let mut text = format!("record: {}\n", call.record);
-    let Inputs { keyboard, idle } = call.inputs;
+    let Inputs { keyboard, idle, stop_address } = call.inputs;
     let _ = writeln!(text, "keyboard {keyboard:02X}, idle figure {idle}, limit {}", call.limit);
-    let _ = writeln!(text, "read-only: {}", call.read_only);
+    let stop = stop_address.map_or("none".to_string(), |address| format!("{address:04X}"));
+    let _ = writeln!(text, "read-only: {}, stop address: {stop}", call.read_only);
     for (page, bytes) in call.pages.iter().enumerate() {
         let _ = write!(text, "page {page}: length {}", bytes.len());
         let set = bytes.iter().enumerate().filter(|(_, byte)| **byte != 0);

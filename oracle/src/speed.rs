@@ -288,7 +288,7 @@ pub fn run(settings: &Settings) -> Result<f64, String> {
 /// A unit that nothing wakes, with its timer running, on empty pages.
 fn parked(idle: u8) -> Call {
     let record = Record { is_halted: true, bf: true, tm: 1, ..Record::default() };
-    Call { record, inputs: Inputs { keyboard: 0, idle }, ..Call::default() }
+    Call { record, inputs: Inputs { idle, ..Inputs::default() }, ..Call::default() }
 }
 
 /// Runs a campaign file exactly once, one of the three ways, and tells document 01's line. The port

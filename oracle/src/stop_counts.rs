@@ -1,0 +1,208 @@
+//! What stop addresses have done, counted (document 02, F-5).
+
+#![forbid(unsafe_code)]
+
+use std::fmt;
+
+use crate::call::{Access, Answer, Call, Log, Record};
+use crate::opcodes::length;
+
+/// What a call may do with its stop address.
+#[derive(Clone, Copy, Debug, PartialEq, Eq)]
+pub enum Met {
+    /// Ended with 12 before the call's first step, or after completed steps.
+    First,
+    Later,
+    /// Ended with 12 right after an interrupt's entry.
+    Target,
+    /// Ended with 12 where the step would have stopped with 5 or 6; with timer reached set.
+    Unlisted,
+    Reached,
+    /// Ended with 11, or with 0 at the limit, where an instruction was due at the address.
+    Full,
+    Limit,
+    /// A step with P there that is no instruction: BF clear, IR0 set, waiting, an entry.
+    Off,
+    Held,
+    Waiting,
+    Entry,
+    /// Ended with 7, and P is there.
+    Halted,
+    /// The address is of a later byte of an instruction that was executed.
+    Inside,
+    /// No step began or stopped with P there.
+    Never,
+}
+
+use Met::*;
+
+const ALL: [(Met, &str); 14] = [
+    (First, "12 before the first step"),
+    (Later, "12 later"),
+    (Target, "12 after an entry"),
+    (Unlisted, "12 before 5 or 6"),
+    (Reached, "12 with timer reached"),
+    (Full, "11 there"),
+    (Limit, "the limit there"),
+    (Off, "BF clear there"),
+    (Held, "IR0 set there"),
+    (Waiting, "waiting there"),
+    (Entry, "an entry from there"),
+    (Halted, "7 there"),
+    (Inside, "inside an instruction"),
+    (Never, "never met"),
+];
+
+/// How many calls had a stop address, and how many of them did each of these.
+#[derive(Clone, Default)]
+pub struct Stops {
+    calls: u64,
+    met: [u64; ALL.len()],
+}
+
+/// What a completed step was, and P at its beginning.
+pub struct Begun<'a> {
+    pub p: u16,
+    pub accesses: &'a [Access],
+}
+
+impl Begun<'_> {
+    pub fn is_entry(&self) -> bool {
+        self.accesses.first().is_some_and(Access::is_write)
+    }
+
+    pub fn is_instruction(&self) -> bool {
+        self.accesses.first().is_some_and(|first| !first.is_write())
+    }
+
+    /// How many bytes the instruction has; 0 where the step is none.
+    fn length(&self) -> u16 {
+        match self.accesses {
+            [first, second, ..] if !first.is_write() => length([first.byte(), second.byte()]),
+            [first] => length([first.byte(), 0x00]),
+            _ => 0,
+        }
+    }
+}
+
+/// The completed steps of a call. P comes from the accesses: an instruction begins with the read of
+/// its opcode, an entry pushes T and then P, the low byte first; a step without an access leaves P.
+pub fn begun<'a>(answer: &Answer, log: &'a Log) -> Vec<Begun<'a>> {
+    let mut p = answer.record.p;
+    let backwards = (0..answer.steps as usize).rev().map(|index| {
+        let accesses = log.step(index);
+        p = match accesses {
+            [] => p,
+            [t, low, high, ..] if t.is_write() => u16::from_be_bytes([high.byte(), low.byte()]),
+            [opcode, ..] => opcode.address() as u16,
+        };
+        Begun { p, accesses }
+    });
+    let mut steps: Vec<_> = backwards.collect();
+    steps.reverse();
+    steps
+}
+
+impl Stops {
+    /// A call, with an answer that tells the accesses.
+    pub fn add(&mut self, call: &Call, answer: &Answer) {
+        let (Some(address), Some(log)) = (call.inputs.stop_address, &answer.log) else { return };
+        let mut met = ended(address, answer);
+        let steps = begun(answer, log);
+        // Nothing inside the unit ends BF clear, so its steps come after those with an access.
+        let busy = steps.iter().rposition(|step| !step.accesses.is_empty());
+        for (index, step) in steps.iter().enumerate().filter(|(_, step)| step.p == address) {
+            let is_last = busy.is_none_or(|busy| busy < index);
+            met.extend(kind(step, &answer.record, is_last));
+        }
+        if answer.number == 12 && steps.last().is_some_and(Begun::is_entry) {
+            met.push(Target);
+        }
+        let is_inside = |step: &Begun| {
+            let behind = address.wrapping_sub(step.p);
+            behind > 0 && behind < step.length()
+        };
+        if steps.iter().any(is_inside) {
+            met.push(Inside);
+        }
+        let ended_there = answer.record.p == address && !matches!(answer.number, 1..=4);
+        if !ended_there && steps.iter().all(|step| step.p != address) {
+            met.push(Never);
+        }
+        self.count(&met);
+    }
+
+    /// A call of which the end alone is known: its record and pages after it, number and steps.
+    pub fn add_end(&mut self, call: &Call, answer: &Answer) {
+        if let Some(address) = call.inputs.stop_address {
+            self.count(&ended(address, answer));
+        }
+    }
+
+    /// One more call, which did all of these.
+    fn count(&mut self, met: &[Met]) {
+        self.calls += 1;
+        for (count, (kind, _)) in self.met.iter_mut().zip(ALL) {
+            *count += u64::from(met.contains(&kind));
+        }
+    }
+
+    pub fn join(&mut self, other: &Stops) {
+        self.calls += other.calls;
+        self.met.iter_mut().zip(other.met).for_each(|(left, right)| *left += right);
+    }
+
+    /// How many calls did this.
+    #[cfg(test)]
+    pub fn of(&self, kind: Met) -> u64 {
+        self.met[kind as usize]
+    }
+
+    /// Whether each of these was met.
+    pub fn have_all(&self) -> bool {
+        self.met.iter().all(|count| *count > 0)
+    }
+}
+
+/// What a call's end does with the stop address.
+fn ended(address: u16, answer: &Answer) -> Vec<Met> {
+    let (record, page) = (&answer.record, &answer.pages[0]);
+    let is_due = record.is_instruction_due() && record.p == address;
+    match answer.number {
+        0 if is_due => vec![Limit],
+        7 if record.p == address => vec![Halted],
+        11 if is_due => vec![Full],
+        12 => {
+            let when = if answer.steps == 0 { First } else { Later };
+            let unlisted = is_unlisted(page, record.p).then_some(Unlisted);
+            let reached = record.is_timer_reached.then_some(Reached);
+            [Some(when), unlisted, reached].into_iter().flatten().collect()
+        }
+        _ => vec![],
+    }
+}
+
+/// The bytes at this place of page 0 are no listed instruction.
+fn is_unlisted(page: &[u8], p: u16) -> bool {
+    let byte = |at: u16| page.get(usize::from(at)).copied().unwrap_or(0xFF);
+    length([byte(p), byte(p.wrapping_add(1))]) == 0
+}
+
+/// What a step with P at the stop address is. It is the last one but for steps without an access.
+fn kind(step: &Begun, end: &Record, is_last: bool) -> Option<Met> {
+    match step.accesses {
+        [] if !end.bf && is_last => Some(Off),
+        [] if end.ir0 => Some(Held),
+        [] => Some(Waiting),
+        _ => step.is_entry().then_some(Entry),
+    }
+}
+
+impl fmt::Display for Stops {
+    fn fmt(&self, f: &mut fmt::Formatter<'_>) -> fmt::Result {
+        let counts: Vec<_> = self.met.iter().zip(ALL).collect();
+        let words: Vec<_> = counts.iter().map(|(count, (_, name))| format!("{name} {count}")).collect();
+        let [ends, steps] = [&words[..7], &words[7..]].map(|words| words.join(", "));
+        write!(f, "{} calls with a stop address: {ends},\n  {steps}", self.calls)
+    }
+}

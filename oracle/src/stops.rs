@@ -1,0 +1,236 @@
+//! Directed calls with a stop address (document 02, F-5): every opcode at it and before it, every byte
+//! of an instruction, every kind of step with P there, entries and what they come to, both ends of
+//! page 0, full logs and limits.
+
+#![forbid(unsafe_code)]
+
+use crate::call::{Call, ReadOnly, Record, Side};
+use crate::directed::{code, flagged, ON};
+use crate::list::Sparse;
+use crate::logs::{self, filled, garbage, instruction, on, Calls, Place, PLACES};
+use crate::opcodes::length;
+use crate::original::Original;
+
+/// All groups, with a title each. Every call comes without a log and with one, and every fourth one
+/// without its stop address besides.
+pub fn groups() -> Vec<(&'static str, Calls)> {
+    vec![
+        ("a stop address around every opcode", varied(opcodes())),
+        ("a stop address at the ends of page 0", varied(at_the_ends())),
+        ("a stop address and every kind of step", varied(states())),
+        ("a stop address and an entry", varied(entries())),
+        ("a stop address with some bits turned", varied(turned())),
+        ("a stop address in a routine", varied(routines())),
+        ("a stop address and 11", Box::new(full_logs())),
+        ("1 to 4 with a stop address", varied(refusals())),
+    ]
+}
+
+/// The call with this stop address.
+fn stopping(call: &Call, address: u16) -> Call {
+    let mut call = call.clone();
+    call.inputs.stop_address = Some(address);
+    call
+}
+
+/// Each call without a log, and with one that has room for all its steps or for some; every fifth
+/// one with page 0 read-only; and every fourth one without its stop address too.
+fn varied(calls: impl Iterator<Item = Call> + 'static) -> Calls {
+    Box::new(calls.enumerate().flat_map(|(index, mut call)| {
+        let used = index % 5;
+        if used == 4 {
+            call.read_only = ReadOnly::new(0, u32::MAX);
+        }
+        let log = garbage(used + if index % 3 == 0 { 10 } else { 60 }, used);
+        let plain = Call { inputs: call.inputs.without_stop(), ..call.clone() };
+        let plain = (index % 4 == 0).then_some(plain);
+        let logged = Call { bus_log: Some(log), ..call.clone() };
+        [call, logged].into_iter().chain(plain)
+    }))
+}
+
+/// Every opcode in the bytes that are executed: the listed ones, and the unlisted ones.
+fn codes() -> impl Iterator<Item = Vec<u8>> {
+    let heads = (0..2).flat_map(|page| (0..=255_u8).map(move |byte| (page, byte)));
+    let unlisted = heads.filter_map(|(page, byte)| {
+        let code = if page == 1 { vec![0xFD, byte] } else { vec![byte] };
+        let is_unlisted = length([code[0], byte]) == 0 && (page == 1 || byte != 0xFD);
+        is_unlisted.then_some(code)
+    });
+    logs::listed().chain(unlisted)
+}
+
+/// An opcode at a place, with the flags clear, or set and timer reached.
+fn at_place(code: &[u8], place: Place) -> [Call; 2] {
+    [0x00, 0x1D].map(|t| {
+        let mut call = instruction(code, place, t);
+        call.record.is_timer_reached = t != 0;
+        Call { limit: 2, ..call }
+    })
+}
+
+/// P after one step of the original.
+fn after(call: &Call) -> u16 {
+    Original.call(&Call { limit: 1, ..call.clone() }).record.p
+}
+
+/// Each opcode with the stop address at it, at each byte behind it, where it goes, one below it, and
+/// with the same low or high byte; and with two NOPs before it.
+fn opcodes() -> impl Iterator<Item = Call> {
+    codes().flat_map(|code| at_place(&code, PLACES[0])).flat_map(|call| {
+        let (p, next) = (call.record.p, after(&call));
+        let low = p % 256;
+        let near = [0, 1, 2, 3, 4, 0xFFFF].map(|more| p.wrapping_add(more));
+        let all = [&near[..], &[next, next ^ 0x0100, low + 0x0100, low + 0x8000]].concat();
+        let mut behind = Call { limit: 4, ..call.clone() };
+        behind.record.p -= 2;
+        behind.pages[0][usize::from(p) - 2..usize::from(p)].fill(0x38);
+        let later = [p, p + 1, next].map(|address| stopping(&behind, address));
+        all.into_iter().map(move |address| stopping(&call, address)).chain(later)
+    })
+}
+
+/// Each opcode at FFFD of whole pages, so that its later bytes and what comes after them are at 0000
+/// and above.
+fn at_the_ends() -> impl Iterator<Item = Call> {
+    codes().flat_map(|code| {
+        let [_, call] = at_place(&code, PLACES[6]);
+        let addresses = [0xFFFD, 0xFFFE, 0xFFFF, 0x0000, 0x0001, after(&call)];
+        addresses.map(|address| stopping(&call, address))
+    })
+}
+
+/// Bit i of the state is the i-th of these flags: halted, BF, IR0, IR1, IR2, timer reached.
+const DECIDING: [u16; 6] = [0x001, 0x008, 0x020, 0x040, 0x080, 0x100];
+
+/// Every state of the flags that decide what a step is, with IE clear and set, and four idle figures.
+/// With the last two the timer's next shift ends in 1FF, at once or later. The vectors lie past the
+/// page's end: an entry comes to FFFF.
+fn states() -> impl Iterator<Item = Call> {
+    let states = (0..64_u16).flat_map(|state| [0x00, 0x02].map(|t| (state, t)));
+    let figures = states.flat_map(|(state, t)| [0, 1, 21, 255].map(|idle| (state, t, idle)));
+    figures.flat_map(|(state, t, idle)| {
+        let flags = (0..6).filter(|i| state >> i & 1 == 1).map(|i| DECIDING[i]).sum();
+        let record = Record { t, s: 0x0030, p: 0x0010, tm: 0x1FE, ..flagged(flags) };
+        let mut call = Call { record, limit: 5, pages: [vec![0x38; 64], vec![]], ..Call::default() };
+        call.inputs.idle = idle;
+        [0x0010, 0xFFFF, 0x0011, 0x0110].map(|address| stopping(&call, address))
+    })
+}
+
+/// Each kind of entry, the stack around both vectors. The stop address is P before it, where the entry
+/// comes to and one above, the vector's own, and P's other byte.
+fn entries() -> impl Iterator<Item = Call> {
+    let stacks = (0xFFF7..=0xFFFD_u16).chain([0x0000, 0x0201]);
+    let flags = [0x048, 0x088, 0x0C8, 0x108, 0x149, 0x089];
+    let records = stacks.flat_map(move |s| flags.map(|flags| (s, flags)));
+    records.flat_map(|(s, flags)| {
+        let record = Record { t: 0x1E, s, p: 0xABCD, ..flagged(flags) };
+        let pages = filled([65_536, 0], 0x5A);
+        let call = Call { record, limit: 3, pages, ..Call::default() };
+        let target = after(&call);
+        let addresses = [0xABCD, target, target.wrapping_add(1), 0xFFFA, 0xFFF8, 0x00CD];
+        addresses.map(|address| stopping(&call, address))
+    })
+}
+
+/// P itself, P with each bit turned, 0 and FFFF, where P is at an edge, on a page of NOPs and past the
+/// end of an empty page.
+fn turned() -> impl Iterator<Item = Call> {
+    let edges = [0, 1, 0x00FF, 0x0100, 0x1234, 0x7FFF, 0x8000, 0xFF00, 0xFFFE, 0xFFFF_u16];
+    edges.into_iter().flat_map(|p| {
+        let bits = (0..16).map(|bit| p ^ 1 << bit);
+        let addresses = [p, 0, 0xFFFF].into_iter().chain(bits).collect::<Vec<_>>();
+        [65_536, 0].into_iter().flat_map(move |length| {
+            let record = Record { p, ..on() };
+            let pages = [vec![0x38; length], vec![]];
+            let call = Call { record, limit: 3, pages, ..Call::default() };
+            addresses.clone().into_iter().map(move |address| stopping(&call, address))
+        })
+    })
+}
+
+/// Each routine with the stop address at each of its bytes and a few behind them, with limits from 1
+/// on, and waiting where it halts.
+fn routines() -> impl Iterator<Item = Call> {
+    courses().into_iter().flat_map(|course| {
+        let call = course.call().expect("its bytes lie inside its pages");
+        let addresses = (0..12).chain([0x0040, 0x0048, 0xFFFF]);
+        let ended = addresses.flat_map(|address| (1..=7).map(move |limit| (address, limit)));
+        ended.flat_map(move |(address, limit)| {
+            let mut call = Call { limit, ..stopping(&call, address) };
+            [0, 21].map(|idle| {
+                call.inputs.idle = idle;
+                call.clone()
+            })
+        })
+    })
+}
+
+/// The vectors of the courses: 0048 for the line, 0040 for the timer and for VMJ C0.
+const VECTORS: [(u32, u8); 3] = [(0xFFF8, 0x48), (0xFFFA, 0x40), (0xFFC0, 0x40)];
+
+/// A routine at 0, with RTI at 0040 and NOP at 0048.
+fn course(record: Record, bytes: &[u8]) -> Sparse {
+    let record = Record { s: 0x0080, ..record };
+    let vectors = VECTORS.map(|(at, low)| (at, vec![0x00, low]));
+    let routine = vec![(0, bytes.to_vec()), (0x0040, vec![0x8A]), (0x0048, vec![0x38])];
+    let set = routine.into_iter().chain(vectors).collect();
+    Sparse { lengths: [65_536, 16], fill: (0x38, 0x00), set, ..code(record, 7, &[]) }
+}
+
+/// Routines that come to their own operands, go round, call and return, take a vector, halt, switch
+/// off, accept interrupts and wake, run into 5 and 6.
+fn courses() -> Vec<Sparse> {
+    let enabled = |flags| Record { t: 0x02, ..flagged(ON + flags) };
+    let woken = Record { tm: 0x1FE, timer_state: 7, ..enabled(0) };
+    let counted = Record { u: 0x0002, ..flagged(ON) };
+    vec![
+        course(flagged(ON), &[0xB5, 0x38, 0x9E, 0x03]),
+        course(flagged(ON), &[0xFD, 0xC8, 0xFD, 0x8A, 0x9E, 0x03]),
+        course(counted, &[0x38, 0x88, 0x03, 0x38]),
+        course(flagged(ON), &[0xBE, 0x00, 0x05, 0x38, 0x31, 0x38, 0x9A]),
+        course(flagged(ON), &[0x38, 0xCD, 0xC0, 0x38]),
+        course(flagged(ON), &[0xBA, 0x00, 0x04, 0x31, 0xFD, 0x00]),
+        course(enabled(0x040), &[0x38, 0x38]),
+        course(enabled(0x080), &[0xFD, 0x81, 0x38]),
+        course(flagged(ON + 0x100), &[0x38, 0xFD, 0x81, 0x38]),
+        course(woken, &[0xFD, 0xB1, 0x38, 0xFD, 0xB1]),
+        course(flagged(ON), &[0x38, 0xFD, 0xB1, 0x38]),
+        course(flagged(ON), &[0x38, 0xFD, 0x4C, 0x38]),
+    ]
+}
+
+/// NOPs up to an opcode that stops, halts or goes on, with 0 to 16 entries free, or a used count
+/// beyond the list, and the stop address at each of them.
+fn full_logs() -> impl Iterator<Item = Call> {
+    let last: [&[u8]; 4] = [&[0x31], &[0xFD, 0x00], &[0xFD, 0xB1], &[0x38]];
+    last.into_iter().flat_map(|last| {
+        let lists = (0..=16).map(|free| (free + 2, 2)).chain([(0, 0), (3, 4), (20, usize::MAX)]);
+        lists.flat_map(move |(length, used)| {
+            (0..5).flat_map(move |address| {
+                [on(), Record { is_timer_reached: true, ..on() }].map(|record| {
+                    let (pages, limit) = ([[&[0x38; 3], last].concat(), vec![]], 5);
+                    let bus_log = Some(garbage(length, used));
+                    let call = Call { record, limit, pages, bus_log, ..Call::default() };
+                    stopping(&call, address)
+                })
+            })
+        })
+    })
+}
+
+/// 1 to 4 come first, whatever the stop address is.
+fn refusals() -> impl Iterator<Item = Call> {
+    [0x0000, 0x0001, 0xFFFF].into_iter().flat_map(|address| {
+        let pages = [vec![0x38; 8], vec![]];
+        let call = Call { record: on(), limit: 1, pages, ..Call::default() };
+        let mut calls = [0; 5].map(|_| stopping(&call, address));
+        calls[0].pages[0].resize(65_537, 0x38);
+        calls[1].pages[1].resize(65_537, 0x38);
+        calls[2].record.tm = 512;
+        calls[3].limit = 0;
+        calls[4].limit = 1_000_001;
+        calls
+    })
+}

@@ -5,7 +5,9 @@
 //! host may do. Each start has an idle figure, 0 for about half of them; with another one the unit
 //! waits where it is halted. In three of eight starts each call of the port is lent a log, which is
 //! compared with the original's accesses and with the model's log. In half of the starts a part of
-//! page 0 is read-only. Every session depends on the seed and its own index only.
+//! page 0 is read-only, and in half of them there is a stop address; after a stop it is often taken
+//! away or another one given, as a host does that steps through a routine. Every session depends on
+//! the seed and its own index only.
 
 #![forbid(unsafe_code)]
 
@@ -20,7 +22,7 @@ use bare::{Pc1500, Returned, Watch};
 use crate::call::{
     Access, Answer, BusLog, Call, Inputs, Log, ReadOnly, Record, GREATEST_LIMIT, MOST_ACCESSES,
 };
-use crate::compare::{self, ends_in_words, report_smallest, slices, Comparison, Logs};
+use crate::compare::{self, ends_in_words, have_all, report_smallest, slices, Comparison, Logs};
 use crate::drops::Drops;
 use crate::opcodes::table;
 use crate::port::{self, Port};
@@ -28,6 +30,8 @@ use crate::progress::Progress;
 use crate::protect;
 use crate::random::{self, Random};
 use crate::shrink;
+use crate::stop_addresses;
+use crate::stop_counts::Stops;
 use crate::waits::Waits;
 
 /// How often each listed byte has to be executed in a run of 100 million steps, and how many steps
@@ -48,7 +52,12 @@ const LEAST_LOGGED: u64 = 10;
 /// The greatest limit of a call with a log or a read-only part. A call of a greater one has no log;
 /// where a part is read-only there is none but such as is refused.
 const LOGGED_LIMIT: u32 = 20_000;
-/// In a run of so many steps read-only parts have to have done all that they can do.
+/// Of a hundred changes between two calls after a stop at the stop address, so many change it too.
+const STOPPED: u64 = 75;
+/// A new stop address is looked for in so many steps that come next.
+const AHEAD: u32 = 300;
+/// In a run of so many steps read-only parts and stop addresses have to have done all that they can
+/// do.
 const MANY: u64 = 1_000_000;
 
 pub struct Settings {
@@ -70,6 +79,9 @@ struct Counts {
     held: u64,
     waits: Waits,
     drops: Drops,
+    stop_addresses: Stops,
+    /// Where the next run of the original without its log stops.
+    stop_address: Option<u16>,
     interrupts: u64,
     /// Interrupts that a halted unit accepts.
     wakes: u64,
@@ -94,6 +106,8 @@ impl Counts {
             held: 0,
             waits: Waits::default(),
             drops: Drops::default(),
+            stop_addresses: Stops::default(),
+            stop_address: None,
             interrupts: 0,
             wakes: 0,
             code_edges: 0,
@@ -171,6 +185,7 @@ impl Counts {
         self.held += other.held;
         self.waits.join(&other.waits);
         self.drops.join(&other.drops);
+        self.stop_addresses.join(&other.stop_addresses);
         self.interrupts += other.interrupts;
         self.wakes += other.wakes;
         self.code_edges += other.code_edges;
@@ -203,6 +218,7 @@ impl Counts {
             "  compared with the original's accesses, in runs through its panics, and the model"
         );
         println!("{}", self.drops);
+        println!("{}", self.stop_addresses);
         println!(
             "steps with an interrupt {} (of a halted unit {}), with BF clear {}, with IR0 set {}",
             self.interrupts, self.wakes, self.off, self.held
@@ -252,6 +268,9 @@ impl Watch for Counts {
     }
     fn executed(&mut self, page: usize, byte: u8) {
         self.executed[page][usize::from(byte)] += 1;
+    }
+    fn stop_address(&self) -> Option<u16> {
+        self.stop_address
     }
 }
 
@@ -350,6 +369,19 @@ impl Session<'_> {
             random::place(&mut self.machine.page0, p, &code);
         }
         self.new_read_only();
+        self.new_stop();
+    }
+
+    /// Another stop address, or none.
+    fn new_stop(&mut self) {
+        self.inputs.stop_address = None;
+        if self.random.chance(50) {
+            let (record, inputs, read_only) = (self.record, self.inputs, self.read_only);
+            let pages = mem::take(&mut self.pages);
+            let call = Call { record, inputs, limit: AHEAD, pages, read_only, bus_log: None };
+            self.inputs.stop_address = Some(stop_addresses::stop_address(&mut self.random, &call));
+            self.pages = call.pages;
+        }
     }
 
     /// Another read-only part, or none.
@@ -398,7 +430,7 @@ impl Session<'_> {
         }
     }
 
-    /// One call; false where it stopped otherwise than with a full log.
+    /// One call; false where it stopped otherwise than with a full log or before the stop address.
     fn next(&mut self) -> Result<bool, Ended> {
         let limit = match self.is_quiet() {
             true => 1 + self.random.below(40) as u32,
@@ -415,7 +447,7 @@ impl Session<'_> {
         self.calls += 1;
         self.steps += returned.steps;
         self.record = self.machine.lh5801.record();
-        Ok(returned.number == 0 || returned.number == 11)
+        Ok(matches!(returned.number, 0 | 11 | 12))
     }
 
     /// A call of this limit has a log or a read-only part.
@@ -445,12 +477,14 @@ impl Session<'_> {
         let port = port::call(&self.record, inputs, limit, pages, None, ReadOnly::default());
         self.compare_bare(&returned, &port)?;
         self.counts.call(&self.record, &returned, self.lengths);
+        self.counts.stop_addresses.add_end(inputs.stop_address, &port, &self.pages[0]);
         Ok(returned)
     }
 
     /// The original without its log.
     fn run_bare(&mut self, limit: u32) -> Returned {
         self.machine.begin(&self.record, self.inputs);
+        self.counts.stop_address = self.inputs.stop_address;
         self.machine.original_run(limit, self.counts)
     }
 
@@ -481,6 +515,7 @@ impl Session<'_> {
         let returned = Returned { number, byte, steps, states };
         self.counts.call(&self.record, &returned, self.lengths);
         self.counts.logs.add(&call, &original);
+        self.counts.stop_addresses.add(&call, &original);
         self.bus_log = port.bus_log;
         Ok(returned)
     }
@@ -524,6 +559,12 @@ impl Session<'_> {
         !r.bf || r.ir0 || self.is_parked() && sleeps_on
     }
 
+    /// The next step stops with 12.
+    fn is_stopped(&self) -> bool {
+        let is_there = self.inputs.stop_address == Some(self.record.p);
+        is_there && self.record.is_instruction_due()
+    }
+
     /// Between two calls: sometimes another record.
     fn change(&mut self) {
         self.empty_log();
@@ -537,6 +578,10 @@ impl Session<'_> {
         }
         if self.random.chance(5) {
             self.new_read_only();
+        }
+        let percent = if self.is_stopped() { STOPPED } else { 5 };
+        if self.random.chance(percent) {
+            self.new_stop();
         }
     }
 }
@@ -672,11 +717,8 @@ fn came_often_enough(counts: &Counts, steps: u64) -> bool {
     if logged < least_logged {
         println!("{logged} steps with an access had a log only, less than {least_logged}");
     }
-    let protected = steps < MANY || counts.drops.have_all();
-    if !protected {
-        println!("the read-only parts did not do all that they have to");
-    }
-    rarest >= least && waits >= least_waits && logged >= least_logged && protected
+    let all = steps < MANY || have_all(&counts.drops, &counts.stop_addresses);
+    rarest >= least && waits >= least_waits && logged >= least_logged && all
 }
 
 /// Prints the smallest input for a difference, from the session made once more up to that call.

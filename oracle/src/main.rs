@@ -50,6 +50,8 @@ mod speed_analyser;
 mod speed_log;
 mod stop_addresses;
 mod stop_counts;
+#[cfg(test)]
+mod stop_faults;
 mod stop_law;
 mod stops;
 mod symbols;

@@ -147,7 +147,8 @@ fn parts_like(part: ReadOnly) -> Vec<ReadOnly> {
 /// No stop address at all, or else a smaller one.
 fn shrink_stop(best: &mut Call, fails: Fails) {
     while let Some(address) = best.inputs.stop_address {
-        let less = [0, 1, address % 256, address / 2, address - address / 4];
+        let high = address / 512 * 256;
+        let less = [0, 1, address % 256, high, address / 2, address - address / 4];
         let addresses = less.into_iter().chain([address.saturating_sub(1)]).map(Some);
         let smaller = [None].into_iter().chain(addresses).filter(|other| *other < Some(address));
         let candidates = smaller.map(|stop_address| with_stop(best, stop_address));

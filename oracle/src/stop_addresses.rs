@@ -33,7 +33,7 @@ pub fn stop_address(random: &mut Random, call: &Call) -> u16 {
         4 => random.pick(&[0x0000, 0xFFFF]),
         5 => random.word(),
         6 => vector(random, &call.pages[0]),
-        7 => beside(random, call),
+        7 | 8 => beside(random, call),
         _ => reached(random, call),
     }
 }
@@ -55,11 +55,11 @@ fn vector(random: &mut Random, page: &[u8]) -> u16 {
 /// same low byte.
 fn beside(random: &mut Random, call: &Call) -> u16 {
     let address = reached(random, call);
-    match random.below(5) {
+    match random.below(8) {
         0 => address.wrapping_sub(1),
-        1 => address.wrapping_add(1),
-        2 => address.wrapping_add(2),
-        3 => address % 256,
+        1..=3 => address.wrapping_add(1),
+        4 | 5 => address.wrapping_add(2),
+        6 => address % 256,
         _ => turned(random, address),
     }
 }

@@ -107,7 +107,7 @@ impl Stops {
     /// A call, with an answer that tells the accesses.
     pub fn add(&mut self, call: &Call, answer: &Answer) {
         let (Some(address), Some(log)) = (call.inputs.stop_address, &answer.log) else { return };
-        let mut met = ended(address, answer);
+        let mut met = ended(address, answer, &answer.pages[0]);
         let steps = begun(answer, log);
         // Nothing inside the unit ends BF clear, so its steps come after those with an access.
         let busy = steps.iter().rposition(|step| !step.accesses.is_empty());
@@ -132,10 +132,10 @@ impl Stops {
         self.count(&met);
     }
 
-    /// A call of which the end alone is known: its record and pages after it, number and steps.
-    pub fn add_end(&mut self, call: &Call, answer: &Answer) {
-        if let Some(address) = call.inputs.stop_address {
-            self.count(&ended(address, answer));
+    /// A call of which the end alone is known: number, steps, end record, and page 0 after it.
+    pub fn add_end(&mut self, stop_address: Option<u16>, answer: &Answer, page: &[u8]) {
+        if let Some(address) = stop_address {
+            self.count(&ended(address, answer, page));
         }
     }
 
@@ -165,8 +165,8 @@ impl Stops {
 }
 
 /// What a call's end does with the stop address.
-fn ended(address: u16, answer: &Answer) -> Vec<Met> {
-    let (record, page) = (&answer.record, &answer.pages[0]);
+fn ended(address: u16, answer: &Answer, page: &[u8]) -> Vec<Met> {
+    let record = &answer.record;
     let is_due = record.is_instruction_due() && record.p == address;
     match answer.number {
         0 if is_due => vec![Limit],

@@ -52,7 +52,7 @@ const LEAST_LOGGED: u64 = 10;
 /// The greatest limit of a call with a log or a read-only part. A call of a greater one has no log;
 /// where a part is read-only there is none but such as is refused.
 const LOGGED_LIMIT: u32 = 20_000;
-/// Of a hundred changes between two calls after a stop at the stop address, so many change it too.
+/// Of a hundred stops with 12, after so many the stop address is taken away or another one comes.
 const STOPPED: u64 = 75;
 /// A new stop address is looked for in so many steps that come next.
 const AHEAD: u32 = 300;

@@ -3,7 +3,7 @@
 
 #![forbid(unsafe_code)]
 
-use crate::call::{Answer, BusLog, Call, ReadOnly};
+use crate::call::{Answer, BusLog, Call, Inputs, ReadOnly};
 use crate::list::Sparse;
 
 /// How many entries the list has that a call is lent.
@@ -12,6 +12,8 @@ pub const ENTRIES: usize = 64;
 const UNUSED: u32 = 0xFFFF_FFFF;
 /// The used count that says that no log is lent.
 pub const NO_LOG: u16 = 65_535;
+/// The number that is written where no stop address is given; any above 65,535 says so.
+const NO_STOP: u32 = 65_536;
 
 #[derive(Clone, Debug, PartialEq, Eq)]
 pub struct Item {
@@ -25,6 +27,7 @@ pub struct Item {
     /// The log's used count, or `NO_LOG`.
     pub used: u16,
     pub read_only: ReadOnly,
+    pub stop_address: Option<u16>,
     /// Over what the call leaves.
     pub sums: [u64; 2],
 }
@@ -75,6 +78,7 @@ impl<'a> Rest<'a> {
             fill,
             used: self.number(2)? as u16,
             read_only: ReadOnly::new(self.number(4)? as u32, self.number(4)? as u32),
+            stop_address: u16::try_from(self.number(4)?).ok(),
             file: self.take(file)?.to_vec(),
             line: self.take(line)?.to_vec(),
             set: self.take(set)?.to_vec(),
@@ -106,6 +110,7 @@ impl Item {
         bytes.extend(self.used.to_le_bytes());
         bytes.extend(self.read_only.first.to_le_bytes());
         bytes.extend(self.read_only.end.to_le_bytes());
+        bytes.extend(self.stop_address.map_or(NO_STOP, u32::from).to_le_bytes());
         for part in [&self.file, &self.line, &self.set] {
             bytes.extend(part);
         }
@@ -114,7 +119,7 @@ impl Item {
     }
 
     /// The file's call on the item's pages, which are the fill rule, then the file's bytes at their
-    /// starts, then the bytes that are set; and with its log and read-only part.
+    /// starts, then the bytes that are set; and with its log, read-only part and stop address.
     pub fn call(&self, file: Call) -> Result<Call, String> {
         let [page0, page1] = file.pages;
         let mut set = vec![(0, page0), (0x1_0000, page1)];
@@ -125,7 +130,8 @@ impl Item {
         let Call { record, inputs, limit, .. } = file;
         let (keyboard, lengths, fill) = (inputs.keyboard, self.lengths, self.fill);
         let call = Sparse { record, keyboard, limit, lengths, fill, set }.call()?;
-        Ok(Call { bus_log: bus_log(self.used), read_only: self.read_only, ..call })
+        let inputs = Inputs { stop_address: self.stop_address, ..call.inputs };
+        Ok(Call { inputs, bus_log: bus_log(self.used), read_only: self.read_only, ..call })
     }
 }
 
@@ -143,6 +149,7 @@ mod tests {
             set: vec![0, 1, 0, 6, 7, 0, 1, 8],
             used: 0x1234,
             read_only: ReadOnly::new(0x0506_0708, u32::MAX - 1),
+            stop_address: Some(0x0A0B),
             sums: [9, u64::MAX],
         }
     }
@@ -150,12 +157,30 @@ mod tests {
     #[test]
     fn an_item_reads_back() {
         let bytes = item().bytes().unwrap();
-        assert_eq!(bytes.len(), 24 + 3 + 4 + 8 + 16);
+        assert_eq!(bytes.len(), 28 + 3 + 4 + 8 + 16);
         assert_eq!(bytes[14..24], [0x34, 0x12, 8, 7, 6, 5, 0xFE, 0xFF, 0xFF, 0xFF]);
+        assert_eq!(bytes[24..28], [0x0B, 0x0A, 0, 0]);
         let mut rest = Rest(&bytes);
         assert_eq!(rest.item(), Ok(item()));
         assert!(rest.0.is_empty());
         assert!(Rest(&bytes[..bytes.len() - 1]).item().is_err());
+    }
+
+    /// 65,535 is a stop address; it is written as 65,536 that there is none, and any number above
+    /// 65,535 is read so.
+    #[test]
+    fn stop_addresses_of_items() {
+        for (stop_address, number) in [(Some(0), 0_u32), (Some(0xFFFF), 65_535), (None, 65_536)] {
+            let given = Item { stop_address, ..item() };
+            let bytes = given.bytes().unwrap();
+            assert_eq!(bytes[24..28], number.to_le_bytes());
+            assert_eq!(Rest(&bytes).item(), Ok(given));
+        }
+        for number in [65_537, 131_072, u32::MAX] {
+            let mut bytes = item().bytes().unwrap();
+            bytes[24..28].copy_from_slice(&u32::to_le_bytes(number));
+            assert_eq!(Rest(&bytes).item().unwrap().stop_address, None);
+        }
     }
 
     #[test]

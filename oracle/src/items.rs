@@ -6,7 +6,7 @@
 use std::fs;
 use std::path::Path;
 
-use crate::call::{Answer, Call, ReadOnly, Record};
+use crate::call::{Answer, Call, Inputs, ReadOnly, Record};
 use crate::campaign::{self, number, GREATEST, WORKED};
 use crate::compare::ordered_original;
 use crate::directed::{self, code, flagged, ON};
@@ -16,29 +16,33 @@ use crate::list::{self, Sparse};
 use crate::progress::Progress;
 use crate::random::Random;
 use crate::read_only;
+use crate::stop_counts::Stops;
+use crate::stops;
 
 /// The program reads so many bytes of a file.
 const GREATEST_FILE: usize = 65_536;
 /// How many files with random bytes changed are turned down.
 const CHANGED: usize = 56;
 
-/// A call, its log's used count or `NO_LOG`, and its read-only part.
+/// A call, its log's used count or `NO_LOG`, its read-only part, and its stop address.
 #[derive(Clone)]
 struct Given {
     sparse: Sparse,
     used: u16,
     read_only: ReadOnly,
+    stop_address: Option<u16>,
 }
 
 impl Given {
-    /// A call of which nothing is read-only.
+    /// A call of which nothing is read-only, without a stop address.
     fn new((sparse, used): (Sparse, u16)) -> Given {
-        Given { sparse, used, read_only: ReadOnly::default() }
+        Given { sparse, used, read_only: ReadOnly::default(), stop_address: None }
     }
 
     fn call(&self) -> Result<Call, String> {
         let call = self.sparse.call()?;
-        Ok(Call { bus_log: bus_log(self.used), read_only: self.read_only, ..call })
+        let inputs = Inputs { stop_address: self.stop_address, ..call.inputs };
+        Ok(Call { inputs, bus_log: bus_log(self.used), read_only: self.read_only, ..call })
     }
 }
 
@@ -114,7 +118,21 @@ fn logged() -> Vec<Given> {
 fn protected() -> Vec<Given> {
     let used = [NO_LOG, 0, NO_LOG, 3, NO_LOG, 50].into_iter().cycle();
     let calls = read_only::short().into_iter().zip(used);
-    calls.map(|((sparse, read_only), used)| Given { sparse, used, read_only }).collect()
+    let given = |((sparse, read_only), used)| Given { read_only, ..Given::new((sparse, used)) };
+    calls.map(given).collect()
+}
+
+/// Directed calls with a stop address: half of them with a log, which has room for all steps, for the
+/// first one, or for none; two of seven with page 0 read-only.
+fn stopping() -> Vec<Given> {
+    let used = [NO_LOG, 0, NO_LOG, 57, NO_LOG, 3, NO_LOG, NO_LOG, 50, 58].into_iter().cycle();
+    let calls = stops::short().into_iter().zip(used).enumerate();
+    let given = |(index, ((sparse, address), used)): (usize, ((Sparse, u16), u16))| {
+        let end = if index % 7 < 2 { 65_536 } else { 0 };
+        let (read_only, stop_address) = (ReadOnly::new(0, end), Some(address));
+        Given { sparse, used, read_only, stop_address }
+    };
+    calls.map(given).collect()
 }
 
 /// Document 01's input with another form of the number at this place.
@@ -164,7 +182,8 @@ fn refused_item(file: Vec<u8>) -> Result<Item, String> {
     let defect = campaign::read(&file).err().ok_or("a file is not turned down")?;
     let line = format!("{}\n", defect.line()).into_bytes();
     let (lengths, fill, set, sums) = ([0; 2], (0, 0), vec![], [0; 2]);
-    Ok(Item { file, line, lengths, fill, set, used: NO_LOG, read_only: ReadOnly::default(), sums })
+    let (used, read_only, stop_address) = (NO_LOG, ReadOnly::default(), None);
+    Ok(Item { file, line, lengths, fill, set, used, read_only, stop_address, sums })
 }
 
 /// For each byte that is set: its offset in two bytes, its page, its value.
@@ -180,8 +199,8 @@ fn groups_of_four(sparse: &Sparse) -> Vec<u8> {
 /// A call's item, with this answer. Its file holds the pages where that is not the longer form, else
 /// empty ones.
 fn call_item(given: &Given, call: &Call, answer: &Answer) -> Item {
-    let Given { sparse, used, read_only } = given;
-    let set = groups_of_four(sparse);
+    let Given { sparse, used, read_only, stop_address } = given.clone();
+    let set = groups_of_four(&sparse);
     let whole = sparse.lengths.iter().sum::<usize>() <= set.len();
     let empty = || Call { pages: [vec![], vec![]], ..call.clone() };
     let (file, fill, set) = match whole {
@@ -189,8 +208,8 @@ fn call_item(given: &Given, call: &Call, answer: &Answer) -> Item {
         false => (campaign::write(&empty()), sparse.fill, set),
     };
     let line = format!("{}\n", answer.line()).into_bytes();
-    let (lengths, used, read_only, sums) = (sparse.lengths, *used, *read_only, sums(answer));
-    Item { file, line, lengths, fill, set, used, read_only, sums }
+    let (lengths, sums) = (sparse.lengths, sums(answer));
+    Item { file, line, lengths, fill, set, used, read_only, stop_address, sums }
 }
 
 /// What a list has in it.
@@ -208,16 +227,25 @@ pub struct Counts {
     pub drops: Drops,
     pub protected: u64,
     pub protected_logged: u64,
+    /// What the stop addresses did; the calls with one that have a log, and a read-only part.
+    pub stops: Stops,
+    pub stopping: [u64; 3],
 }
 
 impl Counts {
-    /// A call; its read-only part besides.
+    /// A call; its read-only part and its stop address besides.
     fn add_call(&mut self, given: &Given, call: &Call, answer: &Answer) {
         self.add(given.used, answer);
         self.drops.add(call, answer);
-        if call.read_only != ReadOnly::default() {
-            self.protected += 1;
-            self.protected_logged += u64::from(call.bus_log.is_some());
+        self.stops.add(call, answer);
+        let (is_logged, is_protected) =
+            (call.bus_log.is_some(), call.read_only != ReadOnly::default());
+        self.protected += u64::from(is_protected);
+        self.protected_logged += u64::from(is_protected && is_logged);
+        if call.inputs.stop_address.is_some() {
+            for (count, has) in self.stopping.iter_mut().zip([true, is_logged, is_protected]) {
+                *count += u64::from(has);
+            }
         }
     }
 
@@ -240,6 +268,8 @@ impl Counts {
         println!("numbers: {}", all.join(" "));
         println!("with a log: {}; 11 after completed steps: {full_later}", log.join(" "));
         println!("{}; {} of these calls have a log", self.drops, self.protected_logged);
+        let [_, logged, protected] = self.stopping;
+        println!("{}; {logged} have a log, {protected} a read-only part", self.stops);
     }
 }
 
@@ -247,7 +277,7 @@ impl Counts {
 fn items(calls: u64, seed: u64) -> Result<(Vec<Item>, Counts), String> {
     let mut counts = Counts::default();
     let mut items = vec![];
-    let given = [listed(calls, seed), logged(), protected()].concat();
+    let given = [listed(calls, seed), logged(), protected(), stopping()].concat();
     let mut progress = Progress::new("call", given.len() as u64);
     for (index, given) in given.iter().enumerate() {
         let call = given.call()?;
@@ -324,8 +354,10 @@ mod tests {
         assert!(counts.numbers.iter().all(|[all, _]| *all > 0));
         assert!(counts.numbers[..8].iter().all(|[_, logged]| *logged > 0));
         assert!(counts.full_later > 100 && counts.logged * 4 > counts.items);
-        assert!((100..=160).contains(&counts.protected) && counts.drops.have_all());
-        assert!((50..=80).contains(&counts.protected_logged));
+        assert!(counts.protected > 150 && counts.drops.have_all());
+        assert!(counts.protected_logged > 80);
+        assert!((130..=170).contains(&counts.stopping[0]), "{:?}", counts.stopping);
+        assert!(counts.numbers[12].iter().all(|count| *count > 20));
     }
 
     /// The line of a file that is turned down, as the oracle's own reader has it.

@@ -1,6 +1,6 @@
 //! The list that the port's program `replay` holds (`../crates/replay/data`), through the port's
-//! two libraries: a call through `lh5801_call` with the idle figure 0, the item's log or none and its
-//! read-only part, a file that is turned down through `probe_report`.
+//! two libraries: a call through `lh5801_call` with the idle figure 0, the item's log or none, its
+//! read-only part and its stop address or none, a file that is turned down through `probe_report`.
 //!
 //! Each page, the words, each file, the line's buffer and each log's list are blocks of the heap that
 //! are exactly as long as they have to be: valgrind tells an access past their ends (`../memcheck`).
@@ -26,6 +26,9 @@ pub struct Tally {
     full: u64,
     /// Calls with a read-only part.
     protected: u64,
+    /// Calls with a stop address, and those of them that end with 12.
+    stopping: u64,
+    stopped: u64,
     /// Files that are turned down: nothing is run.
     refused: u64,
     steps: u64,
@@ -48,17 +51,19 @@ impl Tally {
         self.add(&call);
         let answer = side.call(&call);
         self.full += u64::from(answer.number == 11);
+        self.stopped += u64::from(answer.number == 12);
         self.steps += answer.steps;
         self.most_steps = self.most_steps.max(answer.steps);
         let line = format!("{}\n", answer.line()).into_bytes();
         Ok(answer.failure.is_none() && line == item.line && sums(&answer) == item.sums)
     }
 
-    /// A call's log, read-only part and pages.
+    /// A call's log, read-only part, stop address and pages.
     fn add(&mut self, call: &Call) {
         self.calls += 1;
         self.logged += u64::from(call.bus_log.is_some());
         self.protected += u64::from(call.read_only != ReadOnly::default());
+        self.stopping += u64::from(call.inputs.stop_address.is_some());
         for page in &call.pages {
             for (count, length) in self.pages.iter_mut().zip([0, 65_536, 65_537]) {
                 *count += u64::from(page.len() == length);
@@ -78,6 +83,8 @@ impl Tally {
         );
         println!("  {empty} pages empty, {greatest} of 65,536 bytes, {above} of 65,537;");
         println!("  {logged} with a log, {full} of them end with 11; {protected} read-only parts");
+        let Tally { stopping, stopped, .. } = self;
+        println!("  {stopping} with a stop address, {stopped} of them end with 12");
         println!("{refused} files turned down through probe_report");
         println!("{} items, {} differences", calls + refused, self.differing.len());
         self.differing.is_empty()

@@ -3,16 +3,17 @@
 //!
 //! Which bytes are read first, and what is written, comes from the original's log. In half of the
 //! runs both sides have the same read-only part of page 0: what is dropped there stores nothing, and
-//! each side's bytes in it have to stay, call by call. In half of the runs both sides are lent a bus
-//! log, with equally many free entries and otherwise different.
+//! each side's bytes in it have to stay, call by call. In half of the runs both sides have the same
+//! stop address, and the run is made without it too. In half of the runs both sides are lent a bus log,
+//! with equally many free entries and otherwise different.
 
 #![forbid(unsafe_code)]
 
 use crate::call::{
-    Access, Answer, BusLog, Call, Log, ReadOnly, Record, Side, GREATEST_LIMIT, GREATEST_TM,
+    Access, Answer, BusLog, Call, Inputs, Log, ReadOnly, Record, Side, GREATEST_LIMIT, GREATEST_TM,
     MOST_ACCESSES,
 };
-use crate::compare::{self, ends_in_words, ordered_original, slices};
+use crate::compare::{self, ends_in_words, have_all, ordered_original, slices};
 use crate::drops::Drops;
 use crate::opcodes::{table, Kind, Place};
 use crate::original::Original;
@@ -21,6 +22,8 @@ use crate::progress::Progress;
 use crate::protect;
 use crate::random::{self, Random};
 use crate::shrink;
+use crate::stop_addresses;
+use crate::stop_counts::Stops;
 use bare::Returned;
 
 /// The first access to a byte of a lent page.
@@ -47,6 +50,7 @@ struct Course {
     /// Steps that waited.
     waits: u64,
     drops: Drops,
+    stops: Stops,
 }
 
 impl Course {
@@ -63,6 +67,7 @@ impl Course {
             inside: 0,
             waits: 0,
             drops: Drops::default(),
+            stops: Stops::default(),
         }
     }
 
@@ -163,6 +168,7 @@ fn course(call: &Call, limits: &[u32]) -> Result<Course, String> {
         }
         course.end_call(&answer);
         course.drops.add(&next, &answer);
+        course.stops.add(&next, &answer);
         (next.record, next.pages, next.bus_log) = (answer.record, answer.pages, answer.bus_log);
     }
     if let (Some(given), Some(log)) = (&call.bus_log, &next.bus_log) {
@@ -172,29 +178,34 @@ fn course(call: &Call, limits: &[u32]) -> Result<Course, String> {
     Ok(course)
 }
 
-/// One of the two sides: its pages, its bus log and its list of limits.
+/// One of the two sides: its pages, its bus log and its list of limits; what its calls are given, and
+/// the number that the last one has to end with.
 struct Lane<'a> {
     pages: &'a [Vec<u8>; 2],
     bus_log: Option<&'a BusLog>,
     limits: &'a [u32],
+    inputs: Inputs,
+    number: u8,
 }
 
 /// The port over a list of calls: its answers must sum up to the course. All calls have the call's
-/// idle figure and read-only part, on both sides: only then are two runs comparable. The used count
-/// is handed on.
-fn follow(course: &Course, call: &Call, lane: &Lane) -> Result<(), String> {
+/// idle figure, read-only part and stop address, on both sides: only then are two runs comparable. The
+/// used count is handed on. Tells how many calls that go on from the one before stop at once with 12.
+fn follow(course: &Course, call: &Call, lane: &Lane) -> Result<u64, String> {
     let mut after = lane.pages.clone();
     let mut log = lane.bus_log.cloned();
-    let (mut steps, mut states) = (0, 0);
-    let mut last = None;
+    let (mut steps, mut states, mut at_once) = (0, 0, 0);
+    let mut last: Option<Answer> = None;
     let mut record = call.record;
     for limit in lane.limits {
-        let (inputs, log) = (call.inputs, log.as_mut());
-        let answer = port::call(&record, inputs, *limit, &mut after, log, call.read_only);
+        let log = log.as_mut();
+        let answer = port::call(&record, lane.inputs, *limit, &mut after, log, call.read_only);
         if let Some(message) = &answer.failure {
             return Err(format!("failure: {message}"));
         }
         protected_stays(call.read_only, &lane.pages[0], &after[0])?;
+        let goes_on = last.is_some_and(|last| last.number == 0);
+        at_once += u64::from(goes_on && answer.number == 12 && answer.steps == 0);
         record = answer.record;
         steps += answer.steps;
         states += answer.states;
@@ -204,10 +215,28 @@ fn follow(course: &Course, call: &Call, lane: &Lane) -> Result<(), String> {
     (sum.steps, sum.states) = (steps, states);
     let expected = course.stored(lane.pages);
     let appended = lane.bus_log.map(|log| course.appended(log));
-    compare::returned_difference(&course.returned, &course.record, &sum)
+    let returned = Returned { number: lane.number, ..course.returned };
+    compare::returned_difference(&returned, &course.record, &sum)
         .or_else(|| compare::pages_difference(slices(&expected), slices(&after)))
         .or_else(|| compare::bus_log_difference(appended.as_ref(), log.as_ref()))
-        .map_or(Ok(()), Err)
+        .map_or(Ok(at_once), Err)
+}
+
+/// The port without the stop address, on the given pages: the same run, where that did not end with
+/// 12. Where it did, as many steps as it has completed end with 0 and leave the same.
+fn follow_plain(course: &Course, call: &Call, limits: &[u32]) -> Result<(), String> {
+    let Returned { number, steps, .. } = course.returned;
+    let is_stop = number == 12;
+    if call.inputs.stop_address.is_none() || is_stop && steps == 0 {
+        return Ok(());
+    }
+    let greatest = u64::from(GREATEST_LIMIT);
+    let whole = [steps.min(greatest), steps.saturating_sub(greatest)].map(|limit| limit as u32);
+    let whole = if whole[1] == 0 { &whole[..1] } else { &whole };
+    let (limits, number) = if is_stop { (whole, 0) } else { (limits, number) };
+    let (inputs, bus_log) = (call.inputs.without_stop(), call.bus_log.as_ref());
+    let plain = Lane { pages: &call.pages, bus_log, limits, inputs, number };
+    follow(course, call, &plain).map(|_| ())
 }
 
 /// After every call, each byte of the read-only part is what it was.
@@ -269,6 +298,10 @@ struct Counts {
     /// Runs with a read-only part, and what it did, call by call of the original.
     protected_runs: u64,
     drops: Drops,
+    /// Runs with a stop address, and what it did; cuts between two calls that fall on it.
+    stopping_runs: u64,
+    stop_addresses: Stops,
+    cuts: u64,
 }
 
 impl Counts {
@@ -295,6 +328,7 @@ impl Counts {
         self.waiting_runs += u64::from(course.waits > 0);
         self.protected_runs += u64::from(course.read_only != ReadOnly::default());
         self.drops.join(&course.drops);
+        self.stop_addresses.join(&course.stops);
     }
 
     fn print(&self) {
@@ -317,6 +351,19 @@ impl Counts {
             self.logged_runs, self.logged_steps, self.entries
         );
         println!("runs with a read-only part: {}; {}", self.protected_runs, self.drops);
+        println!(
+            "runs with a stop address: {}, {} of them end with 12, {} cuts fall on it;\n  {}",
+            self.stopping_runs, self.stops[12], self.cuts, self.stop_addresses
+        );
+    }
+
+    /// Whether read-only parts and stop addresses have done all that they can do.
+    fn have_all(&self) -> bool {
+        let all = have_all(&self.drops, &self.stop_addresses);
+        if self.cuts == 0 {
+            println!("no cut falls on a stop address");
+        }
+        all && self.cuts > 0
     }
 }
 
@@ -355,10 +402,14 @@ fn check(call: &Call, seed: u64, index: u64, counts: &mut Counts) -> Result<(), 
     let ([first, second], bus_log) = second(call, &mut random);
     let course = course(call, &first)?;
     let other = other_pages(&mut random, &course, &call.pages);
-    let given = Lane { pages: &call.pages, bus_log: call.bus_log.as_ref(), limits: &first };
-    follow(&course, call, &given).map_err(|how| format!("given pages: {how}"))?;
-    let other = Lane { pages: &other, bus_log: bus_log.as_ref(), limits: &second };
-    follow(&course, call, &other).map_err(|how| format!("other pages: {how}"))?;
+    let (inputs, number, own) = (call.inputs, course.returned.number, call.bus_log.as_ref());
+    let given = Lane { pages: &call.pages, bus_log: own, limits: &first, inputs, number };
+    let cuts = follow(&course, call, &given).map_err(|how| format!("given pages: {how}"))?;
+    let other = Lane { pages: &other, bus_log: bus_log.as_ref(), limits: &second, ..given };
+    let more = follow(&course, call, &other).map_err(|how| format!("other pages: {how}"))?;
+    follow_plain(&course, call, &first).map_err(|how| format!("no stop address: {how}"))?;
+    counts.cuts += cuts + more;
+    counts.stopping_runs += u64::from(inputs.stop_address.is_some());
     counts.add(&course, [&first, &second], call.limit, call.bus_log.is_some());
     Ok(())
 }
@@ -387,7 +438,8 @@ fn case(random: &mut Random) -> Call {
     if random.chance(50) {
         call.bus_log = Some(first_log(random, call.limit));
     }
-    protect::sometimes(random, call)
+    let call = protect::sometimes(random, call);
+    stop_addresses::sometimes(random, call)
 }
 
 /// Code that stores and loads among a few bytes of both pages, so that many are written first.
@@ -420,10 +472,12 @@ fn storing(random: &mut Random) -> Vec<u8> {
     }
 }
 
-/// In a run of so many cases read-only parts have to have done all that they can do.
+/// In a run of so many cases read-only parts and stop addresses have to have done all that they can
+/// do.
 const MANY: u64 = 2000;
 
-/// Runs the cases; true where demand 3 held in each, and read-only parts came as they have to.
+/// Runs the cases; true where demand 3 held in each, and read-only parts and stop addresses came as
+/// they have to.
 pub fn run(cases: u64, seed: u64) -> bool {
     println!("seed {seed}, lists of calls through the port");
     let mut counts = Counts::default();
@@ -441,11 +495,7 @@ pub fn run(cases: u64, seed: u64) -> bool {
     progress.wipe();
     counts.print();
     println!("{cases} runs, {} calls, {} steps, 0 differences", counts.calls, counts.steps);
-    let reached = cases < MANY || counts.drops.have_all();
-    if !reached {
-        println!("the read-only parts did not do all that they have to");
-    }
-    reached
+    cases < MANY || counts.have_all()
 }
 
 fn report(call: Call, seed: u64, index: u64) {
@@ -467,8 +517,9 @@ fn report(call: Call, seed: u64, index: u64) {
 #[cfg(test)]
 mod tests {
     use super::{course, cut, protected_stays, First};
-    use crate::call::{Call, ReadOnly, Record};
+    use crate::call::{Call, Inputs, ReadOnly, Record};
     use crate::random::Random;
+    use bare::Returned;
 
     #[test]
     fn limits_add_up() {
@@ -519,6 +570,22 @@ mod tests {
         assert!(protected_stays(part, &[1, 2, 3, 4], &[1, 9, 3, 4]).is_err());
         assert!(protected_stays(part, &[1, 2, 3, 4], &[1, 2, 9, 4]).is_err());
         assert_eq!(protected_stays(ReadOnly::new(4, 70_000), &[1], &[2]), Ok(()));
+    }
+
+    /// NOP, and the stop address at an unlisted byte behind it: that byte is not read, so that it may
+    /// differ; each later call stops there again.
+    #[test]
+    fn a_stop_before_an_address_reads_nothing() {
+        let record = Record { bf: true, ..Record::default() };
+        let inputs = Inputs { stop_address: Some(1), ..Inputs::default() };
+        let pages = [vec![0x38, 0x31], vec![]];
+        let call = Call { record, inputs, limit: 9, pages, ..Call::default() };
+        for limits in [&[9][..], &[1, 8], &[2, 3, 4]] {
+            let course = course(&call, limits).unwrap();
+            let Returned { number, byte, steps, states } = course.returned;
+            assert_eq!((number, byte, steps, states), (12, 0, 1, 5));
+            assert!(course.first[0][0] == First::Read && course.first[0][1] == First::None);
+        }
     }
 
     /// A stopping step's reads count; a read past the end and a dropped write do not.

@@ -26,6 +26,65 @@ pub fn groups() -> Vec<(&'static str, Calls)> {
     ]
 }
 
+/// The short calls that the replay list holds, each with its stop address; their idle figure is 0.
+pub fn short() -> Vec<(Sparse, u16)> {
+    let routines = courses().into_iter().flat_map(|course| {
+        [0x0000, 0x0001, 0x0002, 0x0003, 0x0040].map(|address| (course.clone(), address))
+    });
+    let loops = (1..=4).map(|limit| (Sparse { limit, ..courses().swap_remove(2) }, 0x0001));
+    let all = routines.chain(loops).chain(short_opcodes()).chain(short_states());
+    all.chain(short_ends()).chain(short_refusals()).collect()
+}
+
+/// Every eighth opcode at 0 on a page of its bytes, with the stop address at it, one above it, and where
+/// it goes, in turn.
+fn short_opcodes() -> Vec<(Sparse, u16)> {
+    let record = Record { t: 0x1D, s: 0x0002, tm: 0x1FF, ..flagged(ON + 0x100) };
+    let calls = codes().step_by(8).enumerate().map(|(index, bytes)| {
+        let sparse = code(record, 2, &bytes);
+        let next = sparse.call().map_or(0, |call| after(&call));
+        (sparse, [0, 1, next][index % 3])
+    });
+    calls.collect()
+}
+
+/// Kinds of steps with P at the stop address, IE clear and set.
+fn short_states() -> Vec<(Sparse, u16)> {
+    let flags = [0x000, 0x008, 0x009, 0x028, 0x048, 0x088, 0x108, 0x149, 0x109];
+    let states = flags.into_iter().flat_map(|flags| [0x00, 0x02].map(|t| (flags, t)));
+    let calls = states.map(|(flags, t)| {
+        let record = Record { t, s: 0x0030, p: 0x0010, ..flagged(flags) };
+        let sparse = Sparse { lengths: [64, 0], fill: (0x38, 0x00), ..code(record, 3, &[]) };
+        (sparse, 0x0010)
+    });
+    calls.collect()
+}
+
+/// NOP, LDI A and FD CC at FFFF, so that P, an operand and the byte after FD are at 0000.
+fn short_ends() -> Vec<(Sparse, u16)> {
+    let record = Record { p: 0xFFFF, ..flagged(ON) };
+    let call = |bytes: [u8; 2]| Sparse {
+        lengths: [65_536, 0],
+        fill: (0x38, 0x00),
+        set: vec![(0x0000, vec![bytes[1]]), (0xFFFF, vec![bytes[0]])],
+        ..code(record, 2, &[])
+    };
+    let [nop, load, after_fd] = [[0x38, 0x38], [0xB5, 0x5A], [0xFD, 0xCC]].map(call);
+    vec![(nop.clone(), 0xFFFF), (nop, 0x0000), (load.clone(), 0x0000), (load, 0x0001), (after_fd, 0)]
+}
+
+/// 1 to 4 on calls that would stop at once.
+fn short_refusals() -> Vec<(Sparse, u16)> {
+    let plain = code(flagged(ON), 1, &[0x38]);
+    let calls = [
+        Sparse { lengths: [65_537, 0], ..plain.clone() },
+        Sparse { lengths: [1, 65_537], ..plain.clone() },
+        Sparse { record: Record { tm: 512, ..flagged(ON) }, ..plain.clone() },
+        Sparse { limit: 0, ..plain },
+    ];
+    calls.map(|sparse| (sparse, 0x0000)).to_vec()
+}
+
 /// The call with this stop address.
 fn stopping(call: &Call, address: u16) -> Call {
     let mut call = call.clone();

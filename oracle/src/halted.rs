@@ -30,7 +30,13 @@ fn call(idle: u8, timer_state: u64, state: u16, t: u8) -> Call {
     let mut record = Record { t, s: 2, tm: 0x1FE, timer_state, ticks: 7, ..Record::default() };
     record.set_flags(set.sum());
     let pages = [vec![0x38; 4], vec![]];
-    Call { record, inputs: Inputs { idle, ..Inputs::default() }, limit: 3, pages, ..Call::default() }
+    Call {
+        record,
+        inputs: Inputs { idle, ..Inputs::default() },
+        limit: 3,
+        pages,
+        ..Call::default()
+    }
 }
 
 #[cfg(test)]

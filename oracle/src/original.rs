@@ -267,6 +267,7 @@ mod tests {
     use crate::call::{Inputs, Record, Side};
     use crate::compare::{pages_difference, returned_difference, slices};
     use crate::random::{self, Random};
+    use crate::stop_addresses;
 
     /// The included text is the original's but for the name in one line.
     #[test]
@@ -289,14 +290,26 @@ mod tests {
         assert!(matches!(panicked(&"index out of bounds"), Panicked::Other(_)));
     }
 
-    /// The library's run call, which foretells 5 and 6, answers as the panics do.
+    /// Tells a run of the library where to stop.
+    struct At(Option<u16>);
+
+    impl bare::Watch for At {
+        fn stop_address(&self) -> Option<u16> {
+            self.0
+        }
+    }
+
+    /// The library's run call, which foretells 5 and 6, answers as the panics do. Half of the calls
+    /// have a stop address.
     #[test]
     fn the_bare_run_call_answers_as_the_panics_do() {
         for index in 0..3000 {
-            let call = random::idle_call(&mut Random::new(11, index));
+            let mut random = Random::new(11, index);
+            let call = random::idle_call(&mut random);
+            let call = stop_addresses::sometimes(&mut random, call);
             let panics = Original.call(&call);
             let mut bare = bare::Pc1500::new(&call.record, call.inputs, call.pages);
-            let returned = bare.original_run(call.limit, &mut ());
+            let returned = bare.original_run(call.limit, &mut At(call.inputs.stop_address));
             assert_eq!(returned_difference(&returned, &bare.lh5801.record(), &panics), None);
             let pages = [bare.page0, bare.page1];
             assert_eq!(pages_difference(slices(&pages), slices(&panics.pages)), None);

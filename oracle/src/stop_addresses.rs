@@ -95,7 +95,8 @@ mod tests {
     #[test]
     fn addresses_come_as_they_should() {
         let all: Vec<_> = calls(6000).map(|call| call.inputs.stop_address).collect();
-        let count = |wanted: &dyn Fn(&Option<u16>) -> bool| all.iter().filter(|a| wanted(a)).count();
+        let count =
+            |wanted: &dyn Fn(&Option<u16>) -> bool| all.iter().filter(|a| wanted(a)).count();
         assert!((2800..3200).contains(&count(&|address| address.is_some())));
         assert!(count(&|address| *address == Some(0)) > 50);
         assert!(count(&|address| *address == Some(0xFFFF)) > 50);

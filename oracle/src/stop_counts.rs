@@ -152,12 +152,6 @@ impl Stops {
         self.met.iter_mut().zip(other.met).for_each(|(left, right)| *left += right);
     }
 
-    /// How many calls did this.
-    #[cfg(test)]
-    pub fn of(&self, kind: Met) -> u64 {
-        self.met[kind as usize]
-    }
-
     /// Whether each of these was met.
     pub fn have_all(&self) -> bool {
         self.met.iter().all(|count| *count > 0)
@@ -201,8 +195,86 @@ fn kind(step: &Begun, end: &Record, is_last: bool) -> Option<Met> {
 impl fmt::Display for Stops {
     fn fmt(&self, f: &mut fmt::Formatter<'_>) -> fmt::Result {
         let counts: Vec<_> = self.met.iter().zip(ALL).collect();
-        let words: Vec<_> = counts.iter().map(|(count, (_, name))| format!("{name} {count}")).collect();
+        let words: Vec<_> =
+            counts.iter().map(|(count, (_, name))| format!("{name} {count}")).collect();
         let [ends, steps] = [&words[..7], &words[7..]].map(|words| words.join(", "));
         write!(f, "{} calls with a stop address: {ends},\n  {steps}", self.calls)
+    }
+}
+
+#[cfg(test)]
+mod tests {
+    use super::{begun, Met, Stops, ALL};
+    use crate::call::{BusLog, Call, Inputs, Record, Side};
+    use crate::original::Original;
+
+    /// What the original's answer to a call counts: this code at 0, and the stop address.
+    fn met(record: Record, code: &[u8], limit: u32, address: u16) -> Vec<Met> {
+        let inputs = Inputs { idle: 5, stop_address: Some(address), ..Inputs::default() };
+        let pages = [code.to_vec(), vec![]];
+        counted(&Call { record, inputs, limit, pages, ..Call::default() })
+    }
+
+    fn counted(call: &Call) -> Vec<Met> {
+        let mut stops = Stops::default();
+        stops.add(call, &Original.call(call));
+        assert_eq!(stops.calls, 1);
+        ALL.into_iter().map(|(kind, _)| kind).filter(|kind| stops.met[*kind as usize] > 0).collect()
+    }
+
+    fn on() -> Record {
+        Record { bf: true, ..Record::default() }
+    }
+
+    #[test]
+    fn ends_are_counted() {
+        let reached = Record { is_timer_reached: true, ..on() };
+        assert_eq!(met(on(), &[0x38], 3, 0), [Met::First]);
+        assert_eq!(met(on(), &[0x31], 3, 0), [Met::First, Met::Unlisted]);
+        assert_eq!(met(reached, &[0x38], 3, 0), [Met::First, Met::Reached]);
+        assert_eq!(met(on(), &[0x38, 0x38], 3, 1), [Met::Later]);
+        assert_eq!(met(on(), &[0x38, 0x38], 1, 1), [Met::Limit]);
+        assert_eq!(met(on(), &[0x38, 0x38], 1, 2), [Met::Never]);
+        assert_eq!(met(on(), &[0xB5, 0x38, 0x38], 1, 1), [Met::Inside, Met::Never]);
+        let inputs = Inputs { stop_address: Some(0), ..Inputs::default() };
+        let pages = [vec![0x38], vec![]];
+        let call = Call { record: on(), inputs, limit: 1, pages, ..Call::default() };
+        let bus_log = Some(BusLog { entries: vec![0; 6], used: 0 });
+        assert_eq!(counted(&Call { bus_log, ..call.clone() }), [Met::Full]);
+        let halted = Record { is_halted: true, ..on() };
+        assert_eq!(counted(&Call { record: halted, ..call.clone() }), [Met::Halted]);
+        assert_eq!(counted(&Call { limit: 0, ..call }), [Met::Never]);
+    }
+
+    /// An entry comes to FFFF past the page's end; HLT and a wait; OFF and steps with BF clear.
+    #[test]
+    fn steps_are_counted() {
+        let entering = Record { ir1: true, t: 0x02, s: 0x0100, ..on() };
+        assert_eq!(met(entering, &[0x38], 1, 0), [Met::Entry]);
+        let wanted = [Met::Later, Met::Target, Met::Unlisted];
+        assert_eq!(met(entering, &[0x38], 2, 0xFFFF), wanted);
+        assert_eq!(met(on(), &[0xFD, 0xB1], 3, 2), [Met::Waiting]);
+        assert_eq!(met(on(), &[0xFD, 0x4C], 3, 2), [Met::Off]);
+        assert_eq!(met(Record { ir0: true, ..on() }, &[0x38], 3, 0), [Met::Held]);
+        assert_eq!(met(Record { ir0: true, bf: false, ..on() }, &[0x38], 3, 0), [Met::Off]);
+    }
+
+    /// P before each step: HLT, a wait of 42 states that ends in 1FF, the entry, RTI, a wait.
+    #[test]
+    fn places_of_steps() {
+        let mut page = vec![0x8A; 65_536];
+        page[..2].copy_from_slice(&[0xFD, 0xB1]);
+        page[0xFFFA..0xFFFC].copy_from_slice(&[0x12, 0x34]);
+        let record = Record { tm: 0x1FE, t: 0x02, s: 0x8000, ..on() };
+        let inputs = Inputs { idle: 42, ..Inputs::default() };
+        let call = Call { record, inputs, limit: 4, pages: [page, vec![]], ..Call::default() };
+        let answer = Original.call(&call);
+        let log = answer.log.clone().unwrap();
+        let steps = begun(&answer, &log);
+        let places: Vec<_> = steps.iter().map(|step| step.p).collect();
+        assert_eq!(places, [0x0000, 0x0002, 0x0002, 0x1234]);
+        let kinds: Vec<_> =
+            steps.iter().map(|step| (step.is_entry(), step.is_instruction())).collect();
+        assert_eq!(kinds, [(false, true), (false, false), (true, false), (false, true)]);
     }
 }

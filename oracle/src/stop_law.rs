@@ -44,3 +44,52 @@ fn passed(address: u16, answer: &Answer) -> Option<usize> {
     let steps = begun(answer, answer.log.as_ref()?);
     steps.iter().position(|step| step.p == address && step.is_instruction())
 }
+
+#[cfg(test)]
+mod tests {
+    use super::broken;
+    use crate::call::{Answer, Call, Inputs, Record, Side};
+    use crate::original::Original;
+
+    /// Three NOPs, with the stop address behind the second.
+    fn call() -> Call {
+        let inputs = Inputs { stop_address: Some(2), ..Inputs::default() };
+        let record = Record { bf: true, ..Record::default() };
+        Call { record, inputs, limit: 3, pages: [vec![0x38; 3], vec![]], ..Call::default() }
+    }
+
+    #[test]
+    fn the_law_holds_of_the_original() {
+        for (address, limit) in [(0, 3), (1, 3), (2, 3), (2, 2), (7, 3), (7, 0)] {
+            let mut call = Call { limit, ..call() };
+            call.inputs.stop_address = Some(address);
+            assert_eq!(broken(&call, &Original.call(&call), &mut Original), None);
+        }
+    }
+
+    #[test]
+    fn other_answers_break_it() {
+        let right = Original.call(&call());
+        let wrong: [fn(&mut Answer); 5] = [
+            |answer| answer.number = 0,
+            |answer| answer.steps -= 1,
+            |answer| answer.states += 1,
+            |answer| answer.record.p += 1,
+            |answer| answer.byte = 0x38,
+        ];
+        for change in wrong {
+            let mut answer = right.clone();
+            change(&mut answer);
+            assert!(broken(&call(), &answer, &mut Original).is_some());
+        }
+    }
+
+    /// The answer without the address, taken for the one with it, has passed the address.
+    #[test]
+    fn a_run_that_has_passed_the_address_breaks_it() {
+        let mut plain = call();
+        plain.inputs.stop_address = None;
+        let how = broken(&call(), &Original.call(&plain), &mut Original);
+        assert!(how.is_some_and(|how| how.starts_with("step 2 executes")));
+    }
+}

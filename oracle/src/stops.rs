@@ -70,7 +70,13 @@ fn short_ends() -> Vec<(Sparse, u16)> {
         ..code(record, 2, &[])
     };
     let [nop, load, after_fd] = [[0x38, 0x38], [0xB5, 0x5A], [0xFD, 0xCC]].map(call);
-    vec![(nop.clone(), 0xFFFF), (nop, 0x0000), (load.clone(), 0x0000), (load, 0x0001), (after_fd, 0)]
+    vec![
+        (nop.clone(), 0xFFFF),
+        (nop, 0x0000),
+        (load.clone(), 0x0000),
+        (load, 0x0001),
+        (after_fd, 0),
+    ]
 }
 
 /// 1 to 4 on calls that would stop at once.
@@ -171,7 +177,8 @@ fn states() -> impl Iterator<Item = Call> {
     figures.flat_map(|(state, t, idle)| {
         let flags = (0..6).filter(|i| state >> i & 1 == 1).map(|i| DECIDING[i]).sum();
         let record = Record { t, s: 0x0030, p: 0x0010, tm: 0x1FE, ..flagged(flags) };
-        let mut call = Call { record, limit: 5, pages: [vec![0x38; 64], vec![]], ..Call::default() };
+        let mut call =
+            Call { record, limit: 5, pages: [vec![0x38; 64], vec![]], ..Call::default() };
         call.inputs.idle = idle;
         [0x0010, 0xFFFF, 0x0011, 0x0110].map(|address| stopping(&call, address))
     })
@@ -292,4 +299,176 @@ fn refusals() -> impl Iterator<Item = Call> {
         calls[4].limit = 1_000_001;
         calls
     })
+}
+
+#[cfg(test)]
+mod tests {
+    use super::{groups, short, Calls};
+    use crate::call::{Answer, BusLog, Call, Inputs, Record, Side};
+    use crate::compare::Comparison;
+    use crate::logs::on;
+    use crate::model::Model;
+    use crate::original::Original;
+    #[cfg(feature = "port")]
+    use crate::port::Port;
+    use crate::stop_counts::Stops;
+
+    fn sides() -> Vec<Box<dyn Side>> {
+        vec![
+            Box::new(Original),
+            Box::<Model>::default(),
+            #[cfg(feature = "port")]
+            Box::new(Port),
+        ]
+    }
+
+    fn all() -> Calls {
+        Box::new(groups().into_iter().flat_map(|(_, calls)| calls))
+    }
+
+    /// Each with its stop address and without it.
+    #[test]
+    fn directed_calls_are_answered_alike() {
+        for side in sides().into_iter().skip(1) {
+            let mut comparison = Comparison::new(side);
+            for call in all() {
+                assert_eq!(comparison.both(&call).2, None, "{call:?}");
+            }
+        }
+    }
+
+    #[test]
+    fn directed_calls_do_all_that_they_can() {
+        let mut stops = Stops::default();
+        all().for_each(|call| stops.add(&call, &Original.call(&call)));
+        assert!(stops.have_all(), "{stops}");
+    }
+
+    #[test]
+    fn the_list_has_a_hundred_and_fifty_short_calls() {
+        let calls = short();
+        assert!((130..=170).contains(&calls.len()), "{}", calls.len());
+        assert!(calls.iter().all(|(sparse, _)| sparse.limit <= 7 && sparse.call().is_ok()));
+    }
+
+    /// A call of this code at 0, with S at 0040.
+    fn call(record: Record, code: &[u8], limit: u32, stop_address: Option<u16>) -> Call {
+        let inputs = Inputs { stop_address, ..Inputs::default() };
+        let record = Record { s: 0x0040, ..record };
+        Call { record, inputs, limit, pages: [code.to_vec(), vec![]], ..Call::default() }
+    }
+
+    /// Holds every side's answer: number, completed steps, their states, and the record's change. A
+    /// stopping step makes no access.
+    fn hold(call: &Call, number: u8, steps: u64, states: u64, change: fn(&mut Record)) {
+        let mut wanted = call.record;
+        (wanted.timer_state, wanted.ticks) = (wanted.timer_state + states, wanted.ticks + states);
+        change(&mut wanted);
+        for mut side in sides() {
+            let answer = side.call(call);
+            assert_eq!((answer.number, answer.steps, answer.states), (number, steps, states));
+            let Answer { record, log, failure, byte, .. } = answer;
+            assert_eq!((byte, failure, record), (0, None, wanted), "{}", side.name());
+            assert!(number != 12 || log.is_none_or(|log| log.accesses.len() == log.completed));
+        }
+    }
+
+    /// At the call's first step, before listed bytes and unlisted ones, of the code and past its end.
+    #[test]
+    fn nothing_is_read_at_the_first_step() {
+        for code in [&[0x38][..], &[0x31], &[0xFD, 0x00], &[0xFD], &[0xFD, 0x4C], &[]] {
+            hold(&call(on(), code, 5, Some(0)), 12, 0, 0, |_| {});
+            for p in [1, 0x00FF, 0xFFFF] {
+                let there = Record { p, ..on() };
+                hold(&call(there, code, 5, Some(p)), 12, 0, 0, |_| {});
+            }
+        }
+    }
+
+    /// 0000 and FFFF are addresses as others are; P comes to 0000 from FFFF.
+    #[test]
+    fn both_ends_of_page_0() {
+        let mut call = call(Record { p: 0xFFFF, ..on() }, &[0x38; 65_536], 3, Some(0));
+        hold(&call, 12, 1, 5, |record| record.p = 0);
+        call.record.p = 0xFFFE;
+        call.inputs.stop_address = Some(0xFFFF);
+        hold(&call, 12, 1, 5, |record| record.p = 0xFFFF);
+        call.inputs.stop_address = Some(0);
+        hold(&call, 12, 2, 10, |record| record.p = 0);
+    }
+
+    /// LDI A and a jump back into it: the operand's address stops the run where P comes to it only.
+    #[test]
+    fn an_operand_stops_the_run_where_p_comes_to_it() {
+        let code = [0xB5, 0x38, 0x9E, 0x03];
+        hold(&call(on(), &code, 1, Some(1)), 0, 1, 6, |record| (record.a, record.p) = (0x38, 2));
+        hold(&call(on(), &code, 9, Some(1)), 12, 2, 15, |record| (record.a, record.p) = (0x38, 1));
+        let after_fd = [0xFD, 0xCC, 0x38];
+        hold(&call(on(), &after_fd, 1, Some(1)), 0, 1, 9, |record| record.p = 2);
+        hold(&call(on(), &after_fd, 9, Some(2)), 12, 1, 9, |record| record.p = 2);
+    }
+
+    /// Timer reached has not moved after a stop; where IE is set it is an entry, which is completed,
+    /// and the stop comes before the instruction that it comes to. Past the end the vector is FFFF.
+    #[test]
+    fn an_accepted_interrupt_is_entered_first() {
+        let reached = Record { is_timer_reached: true, ..on() };
+        hold(&call(reached, &[0x38], 5, Some(0)), 12, 0, 0, |_| {});
+        let enabled = Record { t: 0x02, ..reached };
+        let entered = |record: &mut Record| {
+            (record.is_timer_reached, record.is_halted, record.t) = (false, false, 0x00);
+            (record.s, record.p) = (0x003D, 0xFFFF);
+        };
+        for is_halted in [false, true] {
+            let given = Record { is_halted, ..enabled };
+            hold(&call(given, &[0x38], 1, Some(0)), 0, 1, 0, entered);
+            hold(&call(given, &[0x38], 5, Some(0xFFFF)), 12, 1, 0, entered);
+        }
+    }
+
+    /// A halted unit gives 7, or waits; with BF clear and with IR0 set steps go on.
+    #[test]
+    fn only_an_instruction_is_stopped() {
+        let halted = Record { is_halted: true, ..on() };
+        let mut waiting = call(halted, &[0x38], 3, Some(0));
+        hold(&waiting, 7, 0, 0, |_| {});
+        waiting.inputs.idle = 5;
+        hold(&waiting, 0, 3, 15, |_| {});
+        hold(&call(Record::default(), &[0x38], 3, Some(0)), 0, 3, 24, |_| {});
+        hold(&call(Record { ir0: true, ..on() }, &[0x38], 3, Some(0)), 0, 3, 0, |_| {});
+    }
+
+    /// With six entries free it is 11, with seven 12; 1 to 4 come before both.
+    #[test]
+    fn other_numbers_come_first() {
+        for (free, number) in [(0, 11), (6, 11), (7, 12), (20, 12)] {
+            let mut logged = call(on(), &[0x31], 5, Some(0));
+            logged.bus_log = Some(BusLog { entries: vec![7; free + 2], used: 2 });
+            hold(&logged, number, 0, 0, |_| {});
+            for mut side in sides() {
+                assert_eq!(side.call(&logged).bus_log, logged.bus_log);
+            }
+        }
+        hold(&call(Record { tm: 512, ..on() }, &[0x38], 5, Some(0)), 3, 0, 0, |_| {});
+        hold(&call(on(), &[0x38], 0, Some(0)), 4, 0, 0, |_| {});
+    }
+
+    /// Two NOPs before the stop address: with the limit 2 the call ends with 0, the next one at once
+    /// with 12, and so does each one after it; without the address the run goes on.
+    #[test]
+    fn a_cut_run_does_not_pass_the_stop() {
+        let code = [0x38; 6];
+        hold(&call(on(), &code, 9, Some(2)), 12, 2, 10, |record| record.p = 2);
+        hold(&call(on(), &code, 2, Some(2)), 0, 2, 10, |record| record.p = 2);
+        for mut side in sides() {
+            let mut next = call(on(), &code, 2, Some(2));
+            for (number, steps) in [(0, 2), (12, 0), (12, 0)] {
+                let answer = side.call(&next);
+                assert_eq!((answer.number, answer.steps), (number, steps));
+                next.record = answer.record;
+            }
+            next.inputs.stop_address = None;
+            assert_eq!((side.call(&next).number, side.call(&next).record.p), (0, 4));
+        }
+    }
 }

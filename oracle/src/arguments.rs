@@ -49,6 +49,14 @@ impl Arguments {
         text.parse().map_err(|_| format!("{name} wants a number, not {text}"))
     }
 
+    /// An option's address, in up to four hexadecimal digits; none without the option.
+    pub fn address(&self, name: &str) -> Result<Option<u16>, String> {
+        let Some(text) = self.option(name) else { return Ok(None) };
+        let address = u16::from_str_radix(text, 16).ok().filter(|_| !text.starts_with('+'));
+        let wrong = format!("{name} wants an address of up to four hexadecimal digits, not {text}");
+        address.map(Some).ok_or(wrong)
+    }
+
     /// An option's number, which may not be 0.
     pub fn positive(&self, name: &str, without: u64) -> Result<u64, String> {
         match self.number(name, without)? {

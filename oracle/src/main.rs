@@ -122,6 +122,7 @@ fn run(arguments: &Arguments) -> Result<bool, String> {
             return Ok(true);
         }
     };
+    call.inputs.stop_address = arguments.address("--stop")?;
     call.bus_log = trace.then(|| BusLog::for_steps(call.limit));
     let answer = match name {
         "original" if trace => compare::ordered_original(&call),
@@ -292,7 +293,7 @@ type Command =
     (&'static str, &'static str, &'static [&'static str], fn(&Arguments) -> Result<bool, String>);
 
 const COMMANDS: [Command; 14] = [
-    ("run", help::RUN_HELP, &["--side=", "--trace"], run),
+    ("run", help::RUN_HELP, &["--side=", "--trace", "--stop="], run),
     ("compare", help::COMPARE_HELP, &["--seed=", "--side="], compare),
     ("differential", help::DIFFERENTIAL_HELP, &["--steps=", "--seed=", "--threads="], differential),
     ("rerun", help::RERUN_HELP, &["--seed="], rerun),

@@ -280,9 +280,19 @@ pub fn run(settings: &Settings) -> Result<f64, String> {
     for idle in [2, 255] {
         print_row(&Work::steps(&format!("idle figure {idle}"), &parked(idle), 1_000_000), rounds)?;
     }
+    print_head("With a stop address that is never met (the port alone): 1,000,000 steps", "a step");
+    for (name, call) in &programs {
+        print_row(&Work::steps(name, &never_met(call), 1_000_000), rounds)?;
+    }
     speed_log::run(&programs, rounds)?;
     speed_analyser::run(&programs, rounds)?;
     Ok(least)
+}
+
+/// With a stop address that none of the programs comes to: a run that stops is no row.
+fn never_met(call: &Call) -> Call {
+    let inputs = Inputs { stop_address: Some(0xFFFF), ..call.inputs };
+    Call { inputs, ..call.clone() }
 }
 
 /// A unit that nothing wakes, with its timer running, on empty pages.

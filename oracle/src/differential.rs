@@ -5,8 +5,8 @@
 //! host may do. Each start has an idle figure, 0 for about half of them; with another one the unit
 //! waits where it is halted. In three of eight starts each call of the port is lent a log, which is
 //! compared with the original's accesses and with the model's log. In half of the starts a part of
-//! page 0 is read-only, and in half of them there is a stop address; after a stop it is often taken
-//! away or another one given, as a host does that steps through a routine. Every session depends on
+//! page 0 is read-only. Half of the starts have a stop address; after a stop it is often taken away or
+//! another one given, as a host does that steps through a routine. Every session depends on
 //! the seed and its own index only.
 
 #![forbid(unsafe_code)]

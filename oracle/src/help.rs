@@ -37,17 +37,19 @@ The environment variables PORT_LIB_DIR and PORT_LIB_NAME, at building, name anot
 ";
 
 pub const RUN_HELP: &str = "\
-oracle run [FILE] [--side original|model|port] [--trace]
+oracle run [FILE] [--side original|model|port] [--trace] [--stop ADDRESS]
 
 Reads a campaign file (document 01, \"Campaign file\") from FILE, or from standard input without
 FILE or with -, at most 33,000 bytes of it, and prints document 01's line. A file has no idle figure,
-no log and no read-only part: the figure is 0.
+no log, no read-only part and no stop address: the figure is 0.
 
---side NAME   the side that runs it; without it the original, and with --trace the port. port wants
-              the feature `port`
---trace       before the line, the accesses of the completed steps, one a line, such as `R 0004 27`
-              and `W 7FFF 12`; page 1 has five digits, `R 10004 FF`. They are the side's bus log; the
-              original's vector reads are put in document 01's order, so that the three are alike
+--side NAME     the side that runs it; without it the original, and with --trace the port. port wants
+                the feature `port`
+--trace         before the line, the accesses of the completed steps, one a line, such as `R 0004 27`
+                and `W 7FFF 12`; page 1 has five digits, `R 10004 FF`. They are the side's bus log; the
+                original's vector reads are put in document 01's order, so that the three are alike
+--stop ADDRESS  the run ends with 12 before an instruction at this address, of up to four hexadecimal
+                digits; without it there is no stop address
 ";
 
 pub const COMPARE_HELP: &str = "\
@@ -55,16 +57,19 @@ oracle compare N [--seed S] [--side model|port]
 
 Runs N random calls on the original and on another side and compares number, byte, steps, states,
 end record, both pages and the bus log, every entry and the used count; of the model also the
-accesses. The original's vector reads are put in document 01's order. Half of the calls have the idle
-figure 0, the others any; six of ten are lent a log, often with few free entries, an empty list, or a
-used count beyond the list; half have a read-only part of page 0, at every edge too. Directed calls
-come first: a halted unit with every idle figure and every state of the flags that decide about a step;
-then logs, with every listed opcode, entries, the stack over the vectors, ends of pages, lists of every
-length from 0 to 30, and 11 beside every other end; then read-only parts, with their edges around every
-write, pushes, entries and vectors under the stack, ends above page 0 and empty parts. Prints what was
-reached. At a difference it prints the smallest failing input it finds and ends with status 1, and so
-it does where, in 5,000 calls or more, no write was dropped by a part, none of these bytes read later,
-or no byte of page 1 written with an end above 65,536.
+accesses. The original's vector reads are put in document 01's order. Half of the calls have the
+idle figure 0, the others any; six of ten are lent a log, often with few free entries, an empty
+list, or a used count beyond the list; half have a read-only part of page 0, at every edge too, and
+half a stop address. Directed calls come first: a halted unit with every idle figure and every
+state of the flags that decide about a step; then logs, with every listed opcode, entries, the
+stack over the vectors, ends of pages, lists of every length from 0 to 30, and 11 beside every
+other end; then read-only parts, with their edges around every write, pushes, entries and vectors
+under the stack, ends above page 0 and empty parts; then stop addresses, with every opcode at them
+and before them, every kind of step there, entries and what they come to. Beside each call with a
+stop address the call without it is made, which has to be the same up to the stop. Prints what was
+reached. At a difference it prints the smallest failing input it finds and ends with status 1, and
+so it does where, in 5,000 calls or more, read-only parts or stop addresses did not do all that
+they can.
 
 --seed S      the seed, a decimal number; 1 without it
 --side NAME   the other side, model or port; model without it. port wants the feature `port`
@@ -75,15 +80,16 @@ oracle differential [--steps N] [--seed S] [--threads T]
 
 Runs at least N steps of random programs on the original and on the port, and compares number,
 byte, steps, states, end record and both pages after every call. In three of eight starts the port
-is lent a log, which is handed on from call to call and emptied where it is full, and the log has to
-equal the original's accesses and the model's log. In half of the starts a part of page 0 is read-only.
-Calls with a log or such a part run on the original through its own panics, and on the model too. Idle
+is lent a log, which is handed on from call to call and emptied where it is full, and the log has
+to equal the original's accesses and the model's log. In half of the starts a part of page 0 is
+read-only, and half of them have a stop address, which often changes after a stop. Calls with a log
+or a read-only part run on the original through its own panics, and on the model too. Idle
 figures are 0 in about half of the sessions' starts, else any. Prints what was reached; an opcode
 that was executed less than 10,000 times (N / 10,000 times where that is less), an idle figure of 1
-to 255 with less than 100 waiting steps (N / 1,000,000), less than N / 10 steps with an access and a
-log, or, with N from 1,000,000 on, read-only parts that did not do all they can end with status 1. At
-a difference it prints the smallest failing input it finds and ends with status 1. It wants the
-feature `port`.
+to 255 with less than 100 waiting steps (N / 1,000,000), less than N / 10 steps with an access and
+a log, or, with N from 1,000,000 on, read-only parts or stop addresses that did not do all they can
+end with status 1. At a difference it prints the smallest failing input it finds and ends with
+status 1. It wants the feature `port`.
 
 --steps N     steps that execute an instruction or accept an interrupt; 100,000,000 without it
 --seed S      the seed, a decimal number; 1 without it
@@ -95,14 +101,15 @@ oracle rerun N [--seed S]
 
 Runs N random runs through the port, each twice: cut into a list of calls on the given pages, and
 cut into another list on pages where every byte has another value that the run does not read before
-it has stored a write there. Compares the final stop and its byte, the end record, the sums of steps
-and states, and both pages: a written byte is what was last written, every other byte its own. What
-is read first and what is written comes from the original's log. Both lists have the same idle figure
-and, in half of the runs, the same read-only part: what is dropped there leaves its byte unwritten, and
-after every call each side's bytes in it have to be what they were. In half of the runs both are lent
-a bus log, with equally many free entries and otherwise different, and hand on its used count: the
-lists and counts at the end are compared. At a difference it prints the smallest failing input it
-finds and ends with status 1. It wants the feature `port`.
+it has stored a write there. Compares the final stop and its byte, the end record, the sums of
+steps and states, and both pages: a written byte is what was last written, every other byte its
+own. What is read first and what is written comes from the original's log. Both lists have the same
+idle figure and, in half of the runs, the same read-only part: what is dropped there leaves its
+byte unwritten, and after every call each side's bytes in it have to be what they were. In half of
+the runs both have the same stop address, and the run is made without it too. In half of the runs
+both are lent a bus log, with equally many free entries and otherwise different, and hand on its
+used count: the lists and counts at the end are compared. At a difference it prints the smallest
+failing input it finds and ends with status 1. It wants the feature `port`.
 
 --seed S   the seed, a decimal number; 1 without it
 ";
@@ -158,10 +165,11 @@ pub const REPLAY_HELP: &str = "\
 oracle replay [DIR]
 
 Replays the list that the port's program `replay` holds, from the files answers0.bin and on of DIR,
-or of ../crates/replay/data: every call through lh5801_call with the idle figure 0, the item's read-only
-part, and a log of 64 entries where the item says so, with the line and two sums over both pages, all
-entries and the used count compared; every file that is turned down through probe_report, with its
-line compared. A difference ends with status 1. It wants the features `port` and `probe`.
+or of ../crates/replay/data: every call through lh5801_call with the idle figure 0, the item's
+read-only part, and a log of 64 entries and a stop address where the item says so, with the line
+and two sums over both pages, all entries and the used count compared; every file that is turned
+down through probe_report, with its line compared. A difference ends with status 1. It wants the
+features `port` and `probe`.
 
 Each page, the words, each file, the line's buffer and, where EXACT_LISTS is set, each log's list are
 blocks of the heap that are exactly as long as they have to be, so that an access past an end is seen
@@ -178,11 +186,12 @@ the repository, which a test compares with what is made, is that of
   oracle items 1500 --seed 7 --out ../crates/replay/data
 
 Its items are the calls of `oracle list N`, every third random one with a log, then directed calls
-with a log, then directed calls with a read-only part, every other one with a log, each with the
-original's answer (its vector reads in document 01's order; stops 1 to 4, 7 and 11 are the oracle's
-own), then files that are turned down, with the oracle's own line. A log has 64 entries and a used
-count from 0 to 57, with room for a step, or of 58, 63, 64, 65 or 1,000. Prints how many items there
-are, by the number of their line, and what the read-only parts did.
+with a log, then directed calls with a read-only part and such with a stop address, half of them
+with a log, each with the original's answer (its vector reads in document 01's order; stops 1 to 4,
+7, 11 and 12 are the oracle's own), then files that are turned down, with the oracle's own line. A
+log has 64 entries and a used count from 0 to 57, with room for a step, or of 58, 63, 64, 65 or
+1,000. Prints how many items there are, by the number of their line, and what the read-only parts
+and the stop addresses did.
 
 --seed S    the seed, a decimal number; 1 without it
 --out DIR   the folder, which has to be there, and may not hold a file of a longer list
@@ -193,14 +202,15 @@ oracle speed [--rounds N] [--bench DIR] [--least PERCENT]
 
 Checks that lh5801_call and lh5801_compare are the only functions of the archive besides those of a
 log, as `oracle symbols` does (status 1 where they are not), and measures three ways to do the same
-work, in interleaved rounds: the original's bare step_cpu loop, the original under a run call with its
-stop checks, and the port. The work is that of campaign files with the idle figure 0, whole and cut
-into calls, and then waiting steps; all of it without a log, and nothing is read-only. Then come the
-same files with a log lent to the port, beside the original's bare steps over a memory that records
-the same entries. Last comes lh5801_compare on the logs of these files and on random ones, beside two
-plain walks over the same lists. Prints the median with the least and the greatest, and the ratios of
-the medians, with those of the least costs behind them; above 1 the port is faster. It wants the
-feature `port`.
+work, in interleaved rounds: the original's bare step_cpu loop, the original under a run call with
+its stop checks, and the port. The work is that of campaign files with the idle figure 0, whole and
+cut into calls, and then waiting steps; all of it without a log and without a stop address, and
+nothing is read-only. Then come the same files with a stop address that is never met, which the
+port alone is given, and then with a log lent to the port, beside the original's bare steps over a
+memory that records the same entries. Last comes lh5801_compare on the logs of these files and on
+random ones, beside two plain walks over the same lists. Prints the median with the least and the
+greatest, and the ratios of the medians, with those of the least costs behind them; above 1 the
+port is faster. It wants the feature `port`.
 
 --rounds N        rounds that count; 15 without it
 --bench DIR       the folder of lop.bin, dca.bin and mixed.bin; ../../shared/bench without it
@@ -233,7 +243,8 @@ oracle list N [--seed S] [--out FILE]
 oracle list --check FILE [--side original|model|port]
 
 Writes a list of the original's answers: the directed calls, then N random ones, one call a line;
-the file's head tells the format. Their idle figure is 0, and they have no log and no read-only part.
+the file's head tells the format. Their idle figure is 0, and they have no log, no read-only part and
+no stop address.
 Or reads such a list and compares every answer with a side's; a difference ends with status 1.
 
 --seed S       the seed, a decimal number; 1 without it

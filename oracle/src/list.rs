@@ -12,7 +12,7 @@ use crate::progress::Progress;
 use crate::random::{self, Random};
 
 /// A call with sparse memory: lengths, a rule for every byte, and the bytes set after it. Its idle
-/// figure is 0, and it has no log and no read-only part.
+/// figure is 0, and it has no log, no read-only part and no stop address.
 #[derive(Clone, Debug, Default, PartialEq, Eq)]
 pub struct Sparse {
     pub record: Record,

@@ -276,17 +276,23 @@ pub fn run(settings: &Settings) -> Result<f64, String> {
         let call = on_pages(&programs[0].1, lengths);
         print_row(&Work::calls(&pages_title(lengths), &call, 1), rounds)?;
     }
+    print_settings(&programs, rounds)?;
+    speed_log::run(&programs, rounds)?;
+    speed_analyser::run(&programs, rounds)?;
+    Ok(least)
+}
+
+/// The tables of an idle figure and of a stop address.
+fn print_settings(programs: &[(&'static str, Call)], rounds: u64) -> Result<(), String> {
     print_head("Waiting steps, IE clear: a run of 1,000,000", "a step");
     for idle in [2, 255] {
         print_row(&Work::steps(&format!("idle figure {idle}"), &parked(idle), 1_000_000), rounds)?;
     }
     print_head("With a stop address that is never met (the port alone): 1,000,000 steps", "a step");
-    for (name, call) in &programs {
+    for (name, call) in programs {
         print_row(&Work::steps(name, &never_met(call), 1_000_000), rounds)?;
     }
-    speed_log::run(&programs, rounds)?;
-    speed_analyser::run(&programs, rounds)?;
-    Ok(least)
+    Ok(())
 }
 
 /// With a stop address that none of the programs comes to: a run that stops is no row.

@@ -409,12 +409,17 @@ impl Session<'_> {
         random::garbage(&mut self.random, length, used)
     }
 
-    /// Between two calls: a full log is emptied, any other one handed on.
+    /// Between two calls: a full log is emptied, but for one of ten; any other one is handed on.
     fn empty_log(&mut self) {
-        if self.bus_log.as_ref().is_some_and(BusLog::is_full) {
+        if self.is_full() && self.random.chance(90) {
             let few = self.random.below(4) as usize;
             self.bus_log.as_mut().unwrap().used = few;
         }
+    }
+
+    /// The next step has a log that is full.
+    fn is_full(&self) -> bool {
+        self.bus_log.as_ref().is_some_and(BusLog::is_full)
     }
 
     /// The idle figure of a start: 0 for half of them, now and then an edge, else the next one of
@@ -582,6 +587,10 @@ impl Session<'_> {
         let percent = if self.is_stopped() { STOPPED } else { 5 };
         if self.random.chance(percent) {
             self.new_stop();
+        }
+        if self.is_full() {
+            // 11 comes before 12.
+            self.inputs.stop_address = Some(self.record.p);
         }
     }
 }

@@ -331,16 +331,24 @@ pub fn write(calls: u64, seed: u64, folder: &Path) -> Result<(), String> {
 #[cfg(test)]
 mod tests {
     use super::{files, refused};
+    use crate::call::Side;
     use crate::campaign;
     use crate::model::Model;
+    #[cfg(feature = "port")]
+    use crate::port::Port;
     use crate::replay::{replay_file, Tally};
     use std::fs;
     use std::path::Path;
 
-    /// The list in the repository is the one that `oracle items 1500 --seed 7` makes, and the model
-    /// answers as it says.
+    /// The list in the repository is the one that `oracle items 1500 --seed 7` makes, and the model, and
+    /// the port's calls, answer as it says.
     #[test]
     fn the_list_of_the_repository() {
+        let mut sides: Vec<Box<dyn Side>> = vec![
+            Box::<Model>::default(),
+            #[cfg(feature = "port")]
+            Box::new(Port),
+        ];
         let (files, counts) = files(1500, 7).unwrap();
         let folder = Path::new(crate::REPLAY);
         let name = |index: usize| folder.join(format!("answers{index}.bin"));
@@ -348,7 +356,9 @@ mod tests {
         let mut tally = Tally::default();
         for (index, bytes) in files.iter().enumerate() {
             assert!(*bytes == fs::read(name(index)).unwrap(), "answers{index}.bin differs");
-            replay_file(bytes, &mut Model::default(), read_here, &mut tally).unwrap();
+            for side in sides.iter_mut() {
+                replay_file(bytes, side.as_mut(), read_here, &mut tally).unwrap();
+            }
         }
         assert!(tally.print());
         assert!(counts.numbers.iter().all(|[all, _]| *all > 0));

@@ -125,11 +125,11 @@ fn codes() -> impl Iterator<Item = Vec<u8>> {
     logs::listed().chain(unlisted)
 }
 
-/// An opcode at a place, with the flags clear, or set and timer reached.
+/// An opcode at a place: of T only IE set; or everything but IE, and timer reached.
 fn at_place(code: &[u8], place: Place) -> [Call; 2] {
-    [0x00, 0x1D].map(|t| {
+    [0x02, 0x1D].map(|t| {
         let mut call = instruction(code, place, t);
-        call.record.is_timer_reached = t != 0;
+        call.record.is_timer_reached = t == 0x1D;
         Call { limit: 2, ..call }
     })
 }

@@ -3,13 +3,15 @@ use Rattle.std.specs.Prelude.{◌≡◌, ℕ, zero, suc, ◌+◌, ◌*◌, ◌<�
 use Rattle.std.specs.Int.{from_bool}
 use Rattle.pages.specs.Pages.{read_only_of}
 use Rattle.pages.specs.Prog.{Access}
+use Rattle.execution.specs.Inputs.{inputs_of}
+use Rattle.run.specs.declared.Settings.{Settings}
 use Rattle.run.specs.declared.campaign_file.Parsed.{Parsed}
 use Rattle.run.specs.declared.campaign_file.Refusal.{Refusal}
 use Rattle.run.specs.CampaignFile.{Field, read, refused, campaign_of, refusal_number, refusal_offset}
 use Rattle.run.specs.Line.{refusal_line_of}
 use Rattle.run.specs.BusLog.{Log, log_of, free_in, with_entries}
-use Rattle.run.specs.Run.{CallResult}
-use Rattle.run.specs.Report.{settings_in, answer_line}
+use Rattle.run.specs.Run.{CallResult, settings}
+use Rattle.run.specs.Report.{answer_line}
 use Rattle.run.specs.Parts.{run_parts_of}
 use Rattle.replay.specs.declared.Sums.{Sums}
 use Rattle.replay.specs.declared.Lent.{Lent}
@@ -47,6 +49,14 @@ unused = replicate 64 0xFFFFFFFF
 unfoldable pub log_in : ℕ → Option ℕ
 log_in used = cond (used == 65535) None (Some used)
 
+-- the stop address that an item gives: a number above 65,535 says that there is none
+unfoldable pub stop_address_in : ℕ → Option ℕ
+stop_address_in number = cond (nat_lt 65535 number) None (Some number)
+
+-- what an item's call is given by its file, and by the stop address
+abbrev pub item_settings : ItemValue → Parsed → Settings
+item_settings item c = settings (inputs_of c.asked.keyboard 0 item.lent.stop_address) c.asked.limit
+
 -- a log whose entries are unused but for so many, if one is lent
 abbrev pub lent_log : Option ℕ → Option Log
 lent_log None = None
@@ -57,10 +67,10 @@ abbrev pub log_left : Option ℕ → List Access → Log
 log_left None l = log_of unused 0
 log_left (Some used) l = with_entries (log_of unused used) l
 
--- the call of an item's file, which was read, on the pages, with the read-only part and with the log that the item lends
+-- the call of an item's file, which was read, on the pages, with the read-only part and with the log that the item lends, and with its stop address
 unfoldable pub call_result_of : ItemValue → Parsed → CallResult
 call_result_of item c =
-    run_parts_of (settings_in c.asked) (free_in (lent_log item.lent.log)) c.cpu
+    run_parts_of (item_settings item c) (free_in (lent_log item.lent.log)) c.cpu
     (patch_of (filled_page_of blank item.lent.len0 item.lent.rule item.file c.page0) 0 item.sets) item.lent.len0
     (patch_of (filled_page_of blank item.lent.len1 item.lent.rule item.file c.page1) 1 item.sets) item.lent.len1 item.lent.read_only
 
@@ -120,6 +130,7 @@ item_in = do
   used ← number 2
   read_only_first ← number 4
   read_only_end ← number 4
+  stop ← number 4
   file ← taken file_len
   line ← taken (slice_index bytes 0)
   sets ← taken (4 * slice_index bytes 3)
@@ -133,6 +144,7 @@ item_in = do
       rule = record { first = slice_index bytes 1; step = slice_index bytes 2 };
       read_only = read_only_of read_only_first read_only_end;
       log = log_in used;
+      stop_address = stop_address_in stop;
     };
     sets = sets;
     want = line;

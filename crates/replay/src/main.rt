@@ -1,18 +1,20 @@
 //! Replays a list of the original's answers, and prints how many calls there were and how many differ. No Rust is needed for it.
 //!
 //! The list, data/answers0.bin and on, cut between items, was made by `oracle items 1500 --seed 7 --out DIR`; a test of the oracle makes it again. First
-//! come 3,164 calls with the original's answers, where stops 1 to 4, 7 and 11 and the dropping of writes are the oracle's own: the 923 directed calls of
-//! `oracle list` without a log and 1,500 random ones, every third of which has a log; then directed calls with a log: 187 short runs with used counts up
-//! to, at and beyond the list's end, each listed opcode once, and 91 of the directed calls again, which are not of an opcode each and take less than a
-//! million steps; then 147 directed calls with a read-only part, 73 of them with a log. In all 1,167 calls have a log, and 232 end with 11, 125 of them
-//! after completed steps. Then come 121 files that are turned down with 8, 9 or 10: document 01's example cut at every place, with bytes left over, with
-//! each field too great or too long, and with random bytes changed; their lines are the oracle's own reading, for the original has none.
+//! come 3,319 calls with the original's answers, where stops 1 to 4, 7, 11 and 12 and the dropping of writes are the oracle's own: the 923 directed calls
+//! of `oracle list` without a log and 1,500 random ones, every third of which has a log; then directed calls with a log: 187 short runs with used counts
+//! up to, at and beyond the list's end, each listed opcode once, and 91 of the directed calls again, which are not of an opcode each and take less than a
+//! million steps; then 147 directed calls with a read-only part, 73 of them with a log; then 155 directed calls with a stop address, 77 of them with a log
+//! and 45 with a read-only part; 74 of them end with 12. In all 1,244 calls have a log, and 260 end with 11, 138 of them after completed steps. Then come
+//! 121 files that are turned down with 8, 9 or 10: document 01's example cut at every place, with bytes left over, with each field too great or too long,
+//! and with random bytes changed; their lines are the oracle's own reading, for the original has none.
 //! An item, its numbers lowest byte first: the campaign file's length (2 bytes), the two pages' lengths (4 each), the line's length (1), the fill
 //! rule's first byte and step (1 each), how many bytes are set after it (1), the log's used count, or 65,535 where no log is lent (2), first and end of
-//! the read-only part (4 each); the campaign file; document 01's line; for each byte that is set its offset (2), page (1) and value (1); the two sums over
-//! what the call leaves (8 each): both pages, then all entries of the list, then the used count. The pages lent are as long as the item says: the fill
-//! rule, then the campaign file's bytes at their start, then the bytes that are set. So pages can be longer than a campaign file holds. The list has 64
-//! entries, each FFFFFFFF before the call, also where no log is lent; the used count is then 0.
+//! the read-only part (4 each), the stop address, or a number above 65,535 where none is given (4); the campaign file; document 01's line; for each byte
+//! that is set its offset (2), page (1) and value (1); the two sums over what the call leaves (8 each): both pages, then all entries of the list, then the
+//! used count. The pages lent are as long as the item says: the fill rule, then the campaign file's bytes at their start, then the bytes that are set. So
+//! pages can be longer than a campaign file holds. The list has 64 entries, each FFFFFFFF before the call, also where no log is lent; the used count is
+//! then 0.
 #![tactic(auto)]
 
 ghost use Rattle.std.specs.Prelude.{◌≡◌, ℕ, ◌+◌, ◌^◌, ◌<◌, ◌≤◌, List, None, Some, length, take, IfOk, IfSome, MatchOption, slice_set};
@@ -20,9 +22,10 @@ ghost use Rattle.std.specs.List.{AllZip};
 ghost use Rattle.run.specs.BusLog.{held_log};
 ghost use Rattle.replay.specs.Numbers.{with_number, sums_of, sums_after_of, both_of, next_byte_of};
 ghost use Rattle.replay.specs.Bytes.{fill_of, copy_page_of, patch_of, filled_page_of};
-ghost use Rattle.replay.specs.Calls.{item_value, refusal_differs_of, log_in, call_differs_of, differs_of, taken, number, item_in, replay_of, Replayed};
+ghost use Rattle.replay.specs.Calls.{item_value, refusal_differs_of, log_in, stop_address_in, call_differs_of, differs_of, taken, number, item_in, replay_of, Replayed};
 
 use bus::BusLog;
+use execution::Inputs;
 use pages::ReadOnly;
 use run::campaign_file::{PagePlace, Parsed, Refusal};
 use run::{Settings, campaign_file, line, parts, report};
@@ -57,7 +60,8 @@ struct Rule {
     step: u8,
 }
 
-// What an item lends its call: pages of two lengths, made by the fill rule, with a read-only part, and a log, of which so many entries are used.
+// What an item lends its call: pages of two lengths, made by the fill rule, with a read-only part, and a log, of which so many entries are used; and the
+// stop address.
 #[derive(Clone, Copy)]
 struct Lent {
     len0: usize,
@@ -65,6 +69,7 @@ struct Lent {
     rule: Rule,
     read_only: ReadOnly,
     log: Option<usize>,
+    stop_address: Option<u16>,
 }
 
 // An item of the list: a campaign file, what is lent to its call, the bytes that are set, and the line and the sums that are wanted.
@@ -185,6 +190,14 @@ fn log_of(used: u16) -> Option<usize>
     }
 }
 
+// The stop address that an item gives: a number above 65,535 says that there is none.
+#[tactic(auto, unfolding(crate::specs::Calls::stop_address_in))]
+fn stop_address_of(number: u32) -> Option<u16>
+    ensures { result ≡ stop_address_in number }
+{
+    u16::try_from(number).ok()
+}
+
 // The sums over what a call leaves: the starts of both pages, all entries of the list, and the used count.
 #[tactic(auto, unfolding(crate::specs::Numbers::sums_after_of))]
 fn sums_after(page0: &[u8], page1: &[u8], log: &BusLog) -> Sums
@@ -209,7 +222,7 @@ fn refusal_differs(refusal: Refusal, want: &[u8]) -> bool
 
 impl Item<'_> {
     // Does the call of the item's file, which was read, answer something else? It runs on the pages that the fill rule, the file and the bytes that are
-    // set make, and with the log.
+    // set make, with the log and the stop address.
     #[tactic(auto, unfolding(crate::specs::Calls::call_differs_of, crate::specs::Calls::call_result_of))]
     fn call_differs(&self, c: Parsed) -> bool
         requires { (self.now.lent.len0 ≤ 65537) × (self.now.lent.len1 ≤ 65537) }
@@ -229,7 +242,14 @@ impl Item<'_> {
             entries: &mut entries,
             used: lent.log.unwrap_or(0),
         };
-        let settings = Settings::from(c.asked);
+        let asked = Settings::from(c.asked);
+        let settings = Settings {
+            inputs: Inputs {
+                stop_address: lent.stop_address,
+                ..asked.inputs
+            },
+            ..asked
+        };
         let answer = run::run(
             c.cpu,
             page0,
@@ -288,21 +308,31 @@ impl<'a> Items<'a> {
         Some(*part)
     }
 
+    // A number of four bytes.
+    #[tactic(auto, unfolding(crate::specs::Calls::number, crate::specs::Numbers::number_at))]
+    fn read_number(&mut self) -> Option<u32>
+        ensures number { MatchOption result (number 4 self.old.left.now ≡ None) (λ found. number 4 self.old.left.now ≡ Some (found, self.new.left.now)) }
+        ensures len { IfSome result (λ _. length self.new.left.now + 4 ≡ length self.old.left.now) }
+    {
+        Some(u32::from_le_bytes(self.read_array()?))
+    }
+
     // The first item. `as`: of a number of four bytes usize has all.
     #[tactic(auto, unfolding(crate::specs::Calls::item_in, crate::specs::Calls::number, crate::specs::Numbers::number_at))]
     fn item(&mut self) -> Option<Item<'a>>
         ensures item { MatchOption result (item_in self.old.left.now ≡ None) (λ item. item_in self.old.left.now ≡ Some (item_value item, self.new.left.now)) }
-        ensures shorter { IfSome result (λ _. length self.new.left.now + 40 ≤ length self.old.left.now) }
+        ensures shorter { IfSome result (λ _. length self.new.left.now + 44 ≤ length self.old.left.now) }
     {
         let file_len = u16::from_le_bytes(self.read_array()?);
-        let len0 = u32::from_le_bytes(self.read_array()?) as usize;
-        let len1 = u32::from_le_bytes(self.read_array()?) as usize;
+        let len0 = self.read_number()? as usize;
+        let len1 = self.read_number()? as usize;
         let [line_len, first, step, set_count] = self.read_array::<4>()?;
         let used = u16::from_le_bytes(self.read_array()?);
         let read_only = ReadOnly {
-            first: u32::from_le_bytes(self.read_array()?),
-            end: u32::from_le_bytes(self.read_array()?),
+            first: self.read_number()?,
+            end: self.read_number()?,
         };
+        let stop_number = self.read_number()?;
         let file = self.read_bytes(usize::from(file_len))?;
         let want = self.read_bytes(usize::from(line_len))?;
         let sets = self.read_bytes(4 * usize::from(set_count))?;
@@ -316,6 +346,7 @@ impl<'a> Items<'a> {
             rule: Rule { first, step },
             read_only,
             log: log_of(used),
+            stop_address: stop_address_of(stop_number),
         };
         Some(Item {
             file,

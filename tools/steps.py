@@ -1,9 +1,9 @@
 #!/usr/bin/env python3
 """steps.py count|time [ARCHIVE]: what a step costs, with the archive crates/lh5801/out/liblh5801.a or another. Run at the repository's top.
 
-count: machine instructions a step, by callgrind: lop, dca and mixed of ../shared/bench without a log and with one (calls of 10,000 steps); a call
-of one step of LOP with the loop that makes it; a step with BF clear; a waiting step with idle figure 2 and 255. What else the machine does moves no
-count.
+count: machine instructions a step, by callgrind: lop, dca and mixed of ../shared/bench without a log and with one (calls of 10,000 steps), and with a
+stop address that P never equals; a call of one step of LOP with the loop that makes it; a step with BF clear; a waiting step with idle figure 2 and
+255. What else the machine does moves no count.
 time: nanoseconds a step of lop, dca and mixed without a log, the least of 15 runs of 1,000,000 steps, at each of the four places that the linker may
 give a function of 16 bytes' alignment within 64 bytes: the same code is a fifth faster at one than at another.
 """
@@ -107,6 +107,8 @@ def programs():
         ten = f"for (int i = 0; i < 10; i++) {{ settings.log_used = 0; {RUN} }}"
         lent = "settings.log = entries; settings.log_length = 80000;"
         made[f"{name} logged"] = (program(pages, numbers[:12], 10_000, numbers[12], 0, True, ten, lent), 100_000)
+        stop = "settings.stop_given = 1; settings.stop_address = 0xFFFF;"
+        made[f"{name} stopping"] = (program(pages, numbers[:12], 100_000, numbers[12], 0, False, RUN, stop), 100_000)
     lop = [b"\x88\x02" + bytes(14), b""]
     one = "for (int i = 0; i < 10000; i++) { words[LH5801_U] = 255; lh5801_run(words, page0, LENGTH0, page1, LENGTH1, 0, 1); }"
 
@@ -139,6 +141,7 @@ def count(archive):
         told = {name: it.result() for name, it in told.items()}
     print("lop, dca, mixed:", ", ".join(told[it] for it in FILES))
     print("with a log:", ", ".join(told[f"{it} logged"] for it in FILES))
+    print("with a stop address:", ", ".join(told[f"{it} stopping"] for it in FILES))
     print(f"a call of one step: {told['one']}; BF clear: {told['off']}; waiting, idle figure 2 and 255: {told['waiting 2']}, {told['waiting 255']}")
 
 

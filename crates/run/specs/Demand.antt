@@ -46,8 +46,9 @@ pub record SameAsRun (p q : Pages) (run : CallResult) (calls : List CallResult) 
 
 -- for every accepted run, and every list of limits, at least 1 each, that add up to the run's; for pages equally long, with "the same two addresses on
 -- both sides" (document 02, F-4), that agree at each byte that the run reads before it has written it, where "a dropped write leaves its byte unwritten".
--- Run and list share the inputs: the keyboard byte and, "comparable .. only if their idle figures are equal too" (F-1), the idle figure. They "start with
--- equally many free entries, or neither has a log" (F-2). An empty list adds up to 0, and such a run is not accepted
+-- Run and list share the inputs: the keyboard byte, "comparable .. only if their idle figures are equal too" (F-1) the idle figure, and, as "equal stop
+-- addresses join what two compared runs have in common" (F-5), the stop address. They "start with equally many free entries, or neither has a log" (F-2). An
+-- empty list adds up to 0, and such a run is not accepted
 unfoldable pub Demand3 : Type 0
 Demand3 =
     (s : Settings) (free : Option ℕ) (m : Lh5801) (p : Pages)

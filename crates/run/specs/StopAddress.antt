@@ -58,53 +58,53 @@ abbrev pub steps_to : ℕ → ℕ → Lh5801 → StepEnd → List Access → Add
 steps_to address idle m e l = record { stop = Some address; idle = idle; cpu = m; comes = record { answer = e; pages = code; accesses = l } }
 
 -- 12, and no access
-abbrev pub stops_before : ℕ → ℕ → Lh5801 → AddressStep
-stops_before address idle m = steps_to address idle m (stopped AtAddress) []
+abbrev pub stopped_at : ℕ → ℕ → Lh5801 → AddressStep
+stopped_at address idle m = steps_to address idle m (stopped AtAddress) []
 
 -- LDI done from 0000
-abbrev pub loaded : StepEnd
-loaded = did (record_of (0x42 ∷ 0 ∷ 0 ∷ 0 ∷ 0 ∷ 0x0020 ∷ 0x0002 ∷ 0 ∷ 0x008 ∷ 6 ∷ 0 ∷ 6 ∷ [])) 6 (instruction (First 0xB5))
+abbrev pub ldi_done : StepEnd
+ldi_done = did (record_of (0x42 ∷ 0 ∷ 0 ∷ 0 ∷ 0 ∷ 0x0020 ∷ 0x0002 ∷ 0 ∷ 0x008 ∷ 6 ∷ 0 ∷ 6 ∷ [])) 6 (instruction (First 0xB5))
 
-abbrev pub loads : List Access
-loads = read_of 0x0000 0xB5 ∷ read_of 0x0001 0x42 ∷ []
+abbrev pub ldi_accesses : List Access
+ldi_accesses = read_of 0x0000 0xB5 ∷ read_of 0x0001 0x42 ∷ []
 
 -- P 0000 after so many states, with these flags
-abbrev pub counted : ℕ → ℕ → Lh5801
-counted states flags = record_of (0 ∷ 0 ∷ 0 ∷ 0 ∷ 0 ∷ 0x0020 ∷ 0x0000 ∷ 0 ∷ flags ∷ states ∷ 0 ∷ states ∷ [])
+abbrev pub after_states : ℕ → ℕ → Lh5801
+after_states states flags = record_of (0 ∷ 0 ∷ 0 ∷ 0 ∷ 0 ∷ 0x0020 ∷ 0x0000 ∷ 0 ∷ flags ∷ states ∷ 0 ∷ states ∷ [])
 
 -- an interrupt entered from P 0000: nothing is stored at the stack, nor read at the vector
 abbrev pub entered : ℕ → StepEnd
 entered vector = did (record_of (0 ∷ 0 ∷ 0 ∷ 0 ∷ 0 ∷ 0x001D ∷ 0xFFFF ∷ 0 ∷ 0x008 ∷ 0 ∷ 0 ∷ 0 ∷ [])) 0 (interrupt vector)
 
-abbrev pub entry : ℕ → List Access
-entry vector = write_of 0x0020 0x02 ∷ write_of 0x001F 0x00 ∷ write_of 0x001E 0x00 ∷ read_of vector 0xFF ∷ read_of (vector + 1) 0xFF ∷ []
+abbrev pub entry_accesses : ℕ → List Access
+entry_accesses vector = write_of 0x0020 0x02 ∷ write_of 0x001F 0x00 ∷ write_of 0x001E 0x00 ∷ read_of vector 0xFF ∷ read_of (vector + 1) 0xFF ∷ []
 
 unfoldable pub address_steps : List AddressStep
 address_steps =
     -- at the address, at 0000 and FFFF too, whatever is there: LDI, its operand, an unlisted byte, FD with one, nothing; with any idle figure
-    stops_before 0x0000 0 (at_p 0 0x0000 0x008)
-    ∷ stops_before 0x0001 0 (at_p 0 0x0001 0x008)
-    ∷ stops_before 0x0003 0 (at_p 0 0x0003 0x008)
-    ∷ stops_before 0x0004 255 (at_p 0 0x0004 0x008)
-    ∷ stops_before 0xFFFF 0 (at_p 0 0xFFFF 0x008)
+    stopped_at 0x0000 0 (at_p 0 0x0000 0x008)
+    ∷ stopped_at 0x0001 0 (at_p 0 0x0001 0x008)
+    ∷ stopped_at 0x0003 0 (at_p 0 0x0003 0x008)
+    ∷ stopped_at 0x0004 255 (at_p 0 0x0004 0x008)
+    ∷ stopped_at 0xFFFF 0 (at_p 0 0xFFFF 0x008)
     -- IE set and nothing requested; IE clear, and timer reached, IR1 or IR2 set
-    ∷ stops_before 0x0000 0 (at_p 2 0x0000 0x008)
-    ∷ stops_before 0x0000 0 (at_p 0 0x0000 0x108)
-    ∷ stops_before 0x0000 0 (at_p 0 0x0000 0x0C8)
+    ∷ stopped_at 0x0000 0 (at_p 2 0x0000 0x008)
+    ∷ stopped_at 0x0000 0 (at_p 0 0x0000 0x108)
+    ∷ stopped_at 0x0000 0 (at_p 0 0x0000 0x0C8)
     -- elsewhere: the operand's address, the next instruction's, one that is the same modulo 256; and no stop address
-    ∷ steps_to 0x0001 0 (at_p 0 0x0000 0x008) loaded loads
-    ∷ steps_to 0x0002 0 (at_p 0 0x0000 0x008) loaded loads
-    ∷ steps_to 0x0100 0 (at_p 0 0x0000 0x008) loaded loads
-    ∷ record (steps_to 0x0000 0 (at_p 0 0x0000 0x008) loaded loads) { stop = None }
+    ∷ steps_to 0x0001 0 (at_p 0 0x0000 0x008) ldi_done ldi_accesses
+    ∷ steps_to 0x0002 0 (at_p 0 0x0000 0x008) ldi_done ldi_accesses
+    ∷ steps_to 0x0100 0 (at_p 0 0x0000 0x008) ldi_done ldi_accesses
+    ∷ record (steps_to 0x0000 0 (at_p 0 0x0000 0x008) ldi_done ldi_accesses) { stop = None }
     ∷ steps_to 0x0002 0 (at_p 0 0x0003 0x008) (stopped (Unlisted (First 0x31))) (read_of 0x0003 0x31 ∷ [])
     -- no instruction is due there: BF clear; IR0 set; an interrupt accepted, from timer reached, IR1 and IR2; halted, where it stops with 7 or waits
-    ∷ steps_to 0x0000 0 (at_p 0 0x0000 0x000) (did (counted 8 0x000) 8 off) []
+    ∷ steps_to 0x0000 0 (at_p 0 0x0000 0x000) (did (after_states 8 0x000) 8 off) []
     ∷ steps_to 0x0000 0 (at_p 2 0x0000 0x0E8) (did (at_p 2 0x0000 0x0E8) 0 held) []
-    ∷ steps_to 0x0000 0 (at_p 2 0x0000 0x108) (entered 0xFFFA) (entry 0xFFFA)
-    ∷ steps_to 0x0000 0 (at_p 2 0x0000 0x048) (entered 0xFFFA) (entry 0xFFFA)
-    ∷ steps_to 0x0000 0 (at_p 2 0x0000 0x088) (entered 0xFFF8) (entry 0xFFF8)
+    ∷ steps_to 0x0000 0 (at_p 2 0x0000 0x108) (entered 0xFFFA) (entry_accesses 0xFFFA)
+    ∷ steps_to 0x0000 0 (at_p 2 0x0000 0x048) (entered 0xFFFA) (entry_accesses 0xFFFA)
+    ∷ steps_to 0x0000 0 (at_p 2 0x0000 0x088) (entered 0xFFF8) (entry_accesses 0xFFF8)
     ∷ steps_to 0x0000 0 (at_p 0 0x0000 0x009) (stopped Halted) []
-    ∷ steps_to 0x0000 5 (at_p 0 0x0000 0x009) (did (counted 5 0x009) 5 waiting) []
+    ∷ steps_to 0x0000 5 (at_p 0 0x0000 0x009) (did (after_states 5 0x009) 5 waiting) []
     ∷ []
 
 -- a call on those pages: the stop address, the limit, how many entries of a log are free, if one is lent, and the record, and what it tells
@@ -126,7 +126,7 @@ two_done e =
 
 unfoldable pub address_calls : List AddressCall
 address_calls =
-    -- after two steps, with more of them allowed; with no more than these, and with fewer
+    -- after two steps, where many more are asked for, and one more; where no more is, all are done
     call_comes 0x0003 1_000_000 None (at_p 0 0x0000 0x008) (two_done (Step AtAddress))
     ∷ call_comes 0x0003 3 None (at_p 0 0x0000 0x008) (two_done (Step AtAddress))
     ∷ call_comes 0x0003 2 None (at_p 0 0x0000 0x008) (two_done AllSteps)

@@ -1,5 +1,5 @@
 -- The test of the stop address is document 02's "P equals the stop address".
-use Rattle.std.proofs.Common.{◌≡◌, ℕ, true, false, ◌↔◌, ◌≢◌, sym, ap, ◌∙◌, true≢false, eq-eqb, ne_eqb, eqb-true}
+use Rattle.std.proofs.Common.{◌≡◌, ℕ, true, false, ◌↔◌, ◌≢◌, sym, ap, ◌∙◌, true≢false, eq-eqb, eqb-true}
 use mathlib.Core.Bool.{not-eq-not}
 use Rattle.std.specs.Prelude.{Option, Some, None}
 use Rattle.execution.specs.declared.Inputs.{Inputs}

@@ -13,7 +13,7 @@ use Rattle.execution.specs.Step.{Kind, StepEnd, did, stopped, step_of}
 use Rattle.run.specs.declared.End.{End}
 use Rattle.run.specs.declared.End.TheVariants.{AllSteps, LogFull, Step}
 use Rattle.run.specs.BusLog.{log_full, free_after, Full, NotFull}
-use Rattle.run.specs.Run.{CallResult, call_result, writes_of, no_step, completed, join, one_step, onward, run_of, accesses_after, accesses_of}
+use Rattle.run.specs.Run.{CallResult, writes_of, no_step, completed, join, one_step, onward, run_of, accesses_after, accesses_of}
 use Rattle.run.proofs.BusLog.{after_none, after_append}
 
 -- before the first step of a call the log is full; or the step is completed, or stops

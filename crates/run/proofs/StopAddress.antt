@@ -1,5 +1,5 @@
 -- A run that ends with 12 is a beginning of the run without a stop address and did not pass over it; any other is that run.
-use Rattle.std.proofs.Common.{◌≡◌, ℕ, zero, suc, ◌+◌, ◌<◌, ◌≤◌, ◌≢◌, ◌↔◌, List, [], ◌++◌, map, sym, refl, ap, ◌∙◌, subst, ⊎_elim, true≢false, le_of_suc-le-suc, arith}
+use Rattle.std.proofs.Common.{◌≡◌, ℕ, suc, ◌+◌, ◌<◌, ◌≤◌, ◌≢◌, ◌↔◌, List, [], ◌++◌, map, sym, refl, ap, ◌∙◌, subst, ⊎_elim, true≢false, le_of_suc-le-suc, arith}
 use Rattle.std.specs.Prelude.{Option, Some}
 use Rattle.arithmetic.specs.declared.record.Lh5801.{Lh5801}
 use Rattle.execution.specs.declared.Inputs.{Inputs}
@@ -18,8 +18,8 @@ use Rattle.run.specs.declared.Settings.{Settings}
 use Rattle.run.specs.declared.End.{End}
 use Rattle.run.specs.declared.End.TheVariants.{AllSteps, LogFull, Step}
 use Rattle.run.specs.Acceptance.{Accepted, not_accepted}
-use Rattle.run.specs.BusLog.{free_after, Full, NotFull}
-use Rattle.run.specs.Run.{CallResult, call_result, no_step, completed, join, one_step, onward, run_of, call_unless, call_of, settings}
+use Rattle.run.specs.BusLog.{free_after, NotFull}
+use Rattle.run.specs.Run.{call_result, no_step, completed, join, one_step, onward, run_of, call_unless, call_of, settings}
 use Rattle.run.specs.Reaches.{Reaches, start, next}
 use Rattle.run.specs.StopAddress.{without_address, NotPassed, StopsThere, code, AddressStep, address_steps, AddressCall, address_calls}
 use Rattle.run.proofs.Acceptance.{limit_some, limit_most, call_run}

@@ -1,11 +1,10 @@
 -- The loop over stretches of steps, with a log that may be lent: what it keeps, and how a stretch, a stop, a full log and the limit go on from it.
 use Rattle.std.proofs.Common.{◌≡◌, ℕ, ◌+◌, ◌-◌, ◌<◌, ◌≤◌, Bool, true, false, not, ◌&&◌, List, [], ◌++◌, length, inl, inr, sym, refl, ap, ◌∙◌, append-nil, true≢false, ltb-false, arith, subst}
-use Rattle.std.specs.Prelude.{Option, None, Some, Result, Ok, Err, is_some}
+use Rattle.std.specs.Prelude.{Option, None, Some, Ok, Err, is_some}
 use Rattle.arithmetic.specs.declared.record.Lh5801.{Lh5801}
 use Rattle.execution.specs.declared.Inputs.{Inputs}
 use Rattle.execution.specs.declared.Stop.{Stop}
 use Rattle.execution.specs.declared.Stop.TheVariants.{AtAddress}
-use Rattle.execution.specs.Code.Due.{stops_before_of}
 use Rattle.execution.proofs.DueTest.{stops_before_is}
 use Rattle.execution.proofs.StopConditions.{stops_12}
 use Rattle.execution.specs.Step.{stopped}
@@ -21,7 +20,7 @@ use Rattle.run.specs.declared.End.{End}
 use Rattle.run.specs.declared.End.TheVariants.{AllSteps, LogFull, Step}
 use Rattle.run.specs.declared.Led.{Led}
 use Rattle.run.specs.declared.Settings.{Settings}
-use Rattle.run.specs.BusLog.{held_log, free_of, free_in, free_after, log_full, Full, NotFull}
+use Rattle.run.specs.BusLog.{free_in, free_after, Full, NotFull}
 use Rattle.run.specs.Acceptance.{not_accepted}
 use Rattle.run.specs.Run.{CallResult, call_result, one_step, run_of, call_of, settings}
 use Rattle.run.specs.Reaches.{Reaches, start, next}

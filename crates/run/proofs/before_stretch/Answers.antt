@@ -24,6 +24,6 @@ returns c =
     let elsewhere = sym c.stops_before.ensures ∙ c.if-stops_before.false in
     one_step_alone (sym c.log_full.ensures ∙ c.if-log_full.false) elsewhere
     (elim c.if-is_lent.branch [
-      then-is_lent w ↦ rw (w.if-is_lent.true, w.log-is) (logged_by _ (w.note_step.ensures _ elsewhere))
-    | else-is_lent w ↦ rw (w.if-is_lent.false, w.log-is) logged_unlent
+      | then-is_lent w ↦ rw (w.if-is_lent.true, w.log-is) (logged_by _ (w.note_step.ensures _ elsewhere))
+      | else-is_lent w ↦ rw (w.if-is_lent.false, w.log-is) logged_unlent
     ])

@@ -90,15 +90,6 @@ module _ {s : Settings} {done : ℕ} {m : Lh5801} {p : Pages} where
   room_ahead h (unwatched e) = omega arith
   room_ahead h (one_step_alone f e g) = omega (arith, h)
 
-  pub more_ahead : {is_lent : Bool} {reach : ℕ} {now after : BusLog} → done < s.limit → BeforeStretch s done m p is_lent (Ok reach) now after → done < reach
-  more_ahead h (unwatched e) = h
-  more_ahead h (one_step_alone f e g) = omega arith
-
-  pub passes_ahead : {is_lent : Bool} {reach : ℕ} {now after : BusLog} → BeforeStretch s done m p is_lent (Ok reach) now after
-      → Passes (settings s.inputs reach) done m
-  passes_ahead (unwatched e) = inl e
-  passes_ahead (one_step_alone f e g) = inr (omega arith, e)
-
   end_ahead : {is_lent : Bool} {e : End} {now after : BusLog} → BeforeStretch s done m p is_lent (Err e) now after
       → (after ≡ now) × EndsAhead s m p (free_if is_lent now) e
   end_ahead (full f) = (refl, is_full f)

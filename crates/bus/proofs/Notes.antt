@@ -59,7 +59,7 @@ tested m pages =
     (cond (not m.is_halted) (instruction_accesses m pages) [])))
     []
 
-tested_are : (m : Lh5801) (pages : Pages) → step_accesses m pages (instruction_accesses m pages) ≡ tested m pages
+tested_are : (m : Lh5801) (pages : Pages) → step_accesses m pages ≡ tested m pages
 tested_are m pages =
     go m.bf m.ir0 m.is_halted ((m.is_timer_reached || m.ir1) && has_flag m.t IE) (m.ir2 && has_flag m.t IE)
     (accept_accesses m pages 0xFFFA) (accept_accesses m pages 0xFFF8) (instruction_accesses m pages)

@@ -27,7 +27,7 @@ use Rattle.execution.specs.Places.{locate_of, operand_of}
 use Rattle.execution.specs.Instructions.{operated, alu_of, store_of, sta_of, memory_of, bii_of, drr_of, drl_of, load_of, compare_of, store_at_of, load_at_of, sin_of, sde_of, lin_of, lde_of, holds_of, branch_of, lop_of, vector_of, vector_if_of, jmp_of, sjp_of, rtn_of, rti_of, load_sOf, tin_of, cin_of, pop_to_of, push_from_of, execute_of}
 use Rattle.execution.specs.States.{added_of}
 use Rattle.execution.specs.Step.{StepEnd, did, stopped, instruction, fetched, fetch_of, decoded_by, decoded_step_of, instruction_of, interrupt_of, reached_of, halted_of, due_instruction_of, powered_of, step_of}
-use Rattle.execution.specs.Inputs.{without_stop, stops_at}
+use Rattle.execution.specs.Inputs.{without_stop}
 use Rattle.execution.specs.Conditions.{AddressStop}
 use Rattle.execution.specs.Code.Due.{stops_before_of}
 use Rattle.execution.specs.Completed.{of_completed, completed_accesses}
@@ -180,43 +180,32 @@ cond_each : (b : Bool) {k k' l l' : List Access} → k ≡ k' → l ≡ l' → c
 cond_each true p q = p
 cond_each false p q = q
 
--- those of an instruction that is due, and none where the step stops before it
-due_accesses : Lh5801 → Inputs → Pages → List Access
-due_accesses m inputs pages = cond (stops_at inputs m.p) [] (instruction_accesses m pages)
+-- without a stop address
+module _ (inputs : Inputs) (pages : Pages) where
+  powered_accesses_lem : (m : Lh5801) → completed_accesses (exec (powered_of m (without_stop inputs)) pages) ≡ powered_accesses m pages m.ir1
+  unfolding powered_of due_instruction_of exec with_ir1 with_ir2
+  powered_accesses_lem m =
+      completed_cond pages m.ir0 _ _
+      ∙ cond_each m.ir0 refl (completed_cond pages (m.ir1 && has_flag m.t IE) _ _
+      ∙ cond_each (m.ir1 && has_flag m.t IE) (interrupt_accesses (with_ir1 m false) 0xFFFA pages) (completed_cond pages (m.ir2 && has_flag m.t IE) _ _
+      ∙ cond_each (m.ir2 && has_flag m.t IE) (interrupt_accesses (with_ir2 m false) 0xFFF8 pages) (completed_cond pages m.is_halted _ _
+      ∙ cond_each m.is_halted (halted_accesses m (without_stop inputs) pages) (instruction_accesses_lem m (without_stop inputs) pages))))
 
-due_accesses_lem : (m : Lh5801) (inputs : Inputs) (pages : Pages) → completed_accesses (exec (due_instruction_of m inputs) pages) ≡ due_accesses m inputs pages
-unfolding due_instruction_of due_accesses exec
-due_accesses_lem m inputs pages =
-    completed_cond pages (stops_at inputs m.p) _ _ ∙ cond_each (stops_at inputs m.p) refl (instruction_accesses_lem m inputs pages)
+  reached_accesses : (m : Lh5801) (r : Bool) → completed_accesses (exec (powered_of (cond r (moved m) m) (without_stop inputs)) pages) ≡ powered_accesses m pages (r || m.ir1)
+  unfolding instruction_accesses locate_of with_ir1 with_is_timer_reached with_p
+  reached_accesses m true = powered_accesses_lem (moved m)
+  reached_accesses m false = powered_accesses_lem m
 
-powered_accesses_lem : (m : Lh5801) (inputs : Inputs) (pages : Pages)
-    → completed_accesses (exec (powered_of m inputs) pages) ≡ powered_accesses m pages m.ir1 (due_accesses m inputs pages)
-unfolding powered_of exec with_ir1 with_ir2
-powered_accesses_lem m inputs pages =
-    completed_cond pages m.ir0 _ _
-    ∙ cond_each m.ir0 refl (completed_cond pages (m.ir1 && has_flag m.t IE) _ _
-    ∙ cond_each (m.ir1 && has_flag m.t IE) (interrupt_accesses (with_ir1 m false) 0xFFFA pages) (completed_cond pages (m.ir2 && has_flag m.t IE) _ _
-    ∙ cond_each (m.ir2 && has_flag m.t IE) (interrupt_accesses (with_ir2 m false) 0xFFF8 pages) (completed_cond pages m.is_halted _ _
-    ∙ cond_each m.is_halted (halted_accesses m inputs pages) (due_accesses_lem m inputs pages))))
+  unaddressed_accesses : (m : Lh5801) → completed_accesses (exec (step_of m (without_stop inputs)) pages) ≡ step_accesses m pages
+  unfolding step_of reached_of exec
+  unaddressed_accesses m = completed_cond pages m.bf _ _ ∙ cond_each m.bf (reached_accesses m m.is_timer_reached) refl
 
-reached_accesses : (m : Lh5801) (inputs : Inputs) (pages : Pages) (r : Bool)
-    → completed_accesses (exec (powered_of (cond r (moved m) m) inputs) pages) ≡ powered_accesses m pages (r || m.ir1) (due_accesses m inputs pages)
-unfolding instruction_accesses due_accesses locate_of with_ir1 with_is_timer_reached with_p
-reached_accesses m inputs pages true = powered_accesses_lem (moved m) inputs pages
-reached_accesses m inputs pages false = powered_accesses_lem m inputs pages
-
--- the accesses of a completed step, and none of one that stops, are those computed ahead, whatever the inputs are but for a stop address at P
-unaddressed_accesses : (m : Lh5801) (inputs : Inputs) (pages : Pages)
-    → completed_accesses (exec (step_of m (without_stop inputs)) pages) ≡ step_accesses m pages (instruction_accesses m pages)
-unfolding step_of reached_of due_accesses exec
-unaddressed_accesses m inputs pages =
-    completed_cond pages m.bf _ _ ∙ cond_each m.bf (reached_accesses m (without_stop inputs) pages m.is_timer_reached) refl
-
+-- the accesses of a completed step, and none of one that stops, are those computed ahead, whatever the inputs, where the step does not stop before an address
 pub step_accesses_ahead : (m : Lh5801) (inputs : Inputs) (pages : Pages) → stops_before_of m inputs ≡ false
-    → completed_accesses (exec (step_of m inputs) pages) ≡ step_accesses m pages (instruction_accesses m pages)
+    → completed_accesses (exec (step_of m inputs) pages) ≡ step_accesses m pages
 step_accesses_ahead m inputs pages e =
     let n : ¬ AddressStop inputs m = λ s. true≢false (sym ((stops_before_is m inputs).1 s) ∙ e) in
-    ap (λ (p : Prog StepEnd). completed_accesses (exec p pages)) (sym (step_same inputs m n)) ∙ unaddressed_accesses m inputs pages
+    ap (λ (p : Prog StepEnd). completed_accesses (exec p pages)) (sym (step_same inputs m n)) ∙ unaddressed_accesses inputs pages m
 
 -- at most seven
 pub completed_few : (m : Lh5801) (inputs : Inputs) (pages : Pages) → length (completed_accesses (exec (step_of m inputs) pages)) ≤ 7

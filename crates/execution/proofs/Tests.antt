@@ -55,15 +55,15 @@ module _ (m : Lh5801) where
       go false = sym (or-false m.ir1)
 
   -- a step's two tests for an interrupt
-  pub one : Bool
-  one = (reached_of m).ir1 && has_flag (reached_of m).t IE
+  pub ir1_accepted : Bool
+  ir1_accepted = (reached_of m).ir1 && has_flag (reached_of m).t IE
 
-  pub two : Bool
-  two = (reached_of m).ir2 && has_flag (reached_of m).t IE
+  pub ir2_accepted : Bool
+  ir2_accepted = (reached_of m).ir2 && has_flag (reached_of m).t IE
 
   -- with BF set and IR0 clear an interrupt is accepted where one of the two holds
-  pub accepted_by : m.bf ≡ true → m.ir0 ≡ false → accepted m ≡ one || two
-  unfolding one two
+  pub accepted_by : m.bf ≡ true → m.ir0 ≡ false → accepted m ≡ ir1_accepted || ir2_accepted
+  unfolding ir1_accepted ir2_accepted
   accepted_by b z =
       opened m.bf m.ir0 _ _ b z
       ∙ rw (reached_ir1, reached_ir2, reached_t) (and-or_distrib_right (m.ir1 || m.is_timer_reached) m.ir2 (has_flag m.t IE))
@@ -89,17 +89,17 @@ module _ (m : Lh5801) where
         (cond j (interrupt_of (with_ir2 (reached_of m) false) 0xFFF8)
         (cond (reached_of m).is_halted (done (halted_of (reached_of m) inputs)) (due_instruction_of (reached_of m) inputs)))
 
-    pub tested_step : m.bf ≡ true → m.ir0 ≡ false → step_of m inputs ≡ tested one two
-    unfolding step_of powered_of one two tested
+    pub tested_step : m.bf ≡ true → m.ir0 ≡ false → step_of m inputs ≡ tested ir1_accepted ir2_accepted
+    unfolding step_of powered_of ir1_accepted ir2_accepted tested
     tested_step b z = cond_true m.bf _ _ b ∙ cond_false (reached_of m).ir0 _ _ (reached_ir0 ∙ z)
 
     -- no interrupt is accepted: only halted is left to test
-    pub unheld : m.bf ≡ true → m.ir0 ≡ false → accepted m ≡ false
+    unheld : m.bf ≡ true → m.ir0 ≡ false → accepted m ≡ false
         → step_of m inputs ≡ cond m.is_halted (done (halted_of (reached_of m) inputs)) (due_instruction_of (reached_of m) inputs)
     unfolding tested
     unheld b z n =
-        let e : one || two ≡ false = sym (accepted_by b z) ∙ n in
-        tested_step b z ∙ cond_false one _ _ (none_left one two e) ∙ cond_false two _ _ (none_right one two e)
+        let e : ir1_accepted || ir2_accepted ≡ false = sym (accepted_by b z) ∙ n in
+        tested_step b z ∙ cond_false ir1_accepted _ _ (none_left ir1_accepted ir2_accepted e) ∙ cond_false ir2_accepted _ _ (none_right ir1_accepted ir2_accepted e)
         ∙ ap (λ h. cond h (done (halted_of (reached_of m) inputs)) (due_instruction_of (reached_of m) inputs)) reached_halted
 
     -- halted: it stops or waits, by the idle figure
@@ -121,7 +121,7 @@ module _ (m : Lh5801) where
     -- an interrupt is accepted
     pub accepted_step : m.bf ≡ true → m.ir0 ≡ false → accepted m ≡ true → Always IsActive (step_of m inputs)
     unfolding tested
-    accepted_step b z n = subst (Always IsActive) (sym (tested_step b z)) (go one two (sym (accepted_by b z) ∙ n))
+    accepted_step b z n = subst (Always IsActive) (sym (tested_step b z)) (go ir1_accepted ir2_accepted (sym (accepted_by b z) ∙ n))
       where
         go : (i j : Bool) → i || j ≡ true → Always IsActive (tested i j)
         go true j e = active_interrupt (with_ir1 (reached_of m) false) 0xFFFA

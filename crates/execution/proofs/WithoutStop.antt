@@ -1,4 +1,4 @@
--- A step that does not stop before the stop address is the step without one.
+-- A step that does not stop before the stop address is the step without ir1_accepted.
 use Rattle.std.proofs.Common.{◌≡◌, ◌+◌, Bool, true, false, ◌||◌, sym, refl, ap, ◌∙◌}
 use Rattle.std.proofs.Math.Path.{fun_ext}
 use mathlib.Core.Bool.{false≢true}
@@ -18,7 +18,7 @@ use Rattle.execution.specs.States.{added_of}
 use Rattle.execution.specs.Step.{StepEnd, did, instruction, fetch_of, decoded_by, decoded_step_of, instruction_of, reached_of, halted_of, powered_of, step_of}
 use Rattle.execution.specs.Conditions.{accepted, Halting, Due, AddressStop, Fetches}
 use Rattle.execution.proofs.Choices.{cond_true, cond_false}
-use Rattle.execution.proofs.Tests.{one, two, accepted_by, reached_ir0, tested, tested_step, halting_step, fetching_step}
+use Rattle.execution.proofs.Tests.{ir1_accepted, ir2_accepted, accepted_by, reached_ir0, tested, tested_step, halting_step, fetching_step}
 
 module _ (inputs : Inputs) where
   -- no instruction looks at it
@@ -53,7 +53,7 @@ module _ (inputs : Inputs) where
     accepted_same : m.bf ≡ true → m.ir0 ≡ false → accepted m ≡ true → step_of m (without_stop inputs) ≡ step_of m inputs
     unfolding tested
     accepted_same b z a =
-        tested_step m (without_stop inputs) b z ∙ go (one m) (two m) (sym (accepted_by m b z) ∙ a) ∙ sym (tested_step m inputs b z)
+        tested_step m (without_stop inputs) b z ∙ go (ir1_accepted m) (ir2_accepted m) (sym (accepted_by m b z) ∙ a) ∙ sym (tested_step m inputs b z)
       where
         go : (i j : Bool) → i || j ≡ true → tested m (without_stop inputs) i j ≡ tested m inputs i j
         go true j e = refl

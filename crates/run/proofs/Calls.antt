@@ -1,5 +1,5 @@
 -- Every run call: its pages, its steps, its stops and its states.
-use Rattle.std.proofs.Common.{◌≡◌, ℕ, ◌*◌, ◌<◌, ◌≤◌, ◌↔◌, List, sym, refl, ap, ◌∙◌, true≢false, arith}
+use Rattle.std.proofs.Common.{◌≡◌, ℕ, ◌*◌, ◌<◌, ◌≤◌, ◌≢◌, ◌↔◌, List, sym, refl, ap, ◌∙◌, true≢false, arith}
 use Rattle.std.specs.Prelude.{Option}
 use Rattle.arithmetic.specs.declared.record.Lh5801.{Lh5801}
 use Rattle.execution.specs.declared.Inputs.{Inputs}
@@ -10,7 +10,7 @@ use Rattle.execution.specs.declared.Stop.{Stop}
 use Rattle.execution.specs.declared.Opcode.TheVariants.{First, AfterFd}
 use Rattle.execution.specs.declared.Stop.TheVariants.{Unlisted, Halted, AtAddress}
 use Rattle.execution.specs.Stops.{stop_number, stop_byte}
-use Rattle.execution.proofs.Stops.{stop_least, stop_not_11, stop_same}
+use Rattle.execution.proofs.Stops.{stop_least, stop_not_11, stop_byte_0, stop_same}
 use Rattle.execution.specs.Step.{stopped}
 use Rattle.execution.specs.Conditions.{HaltedStop, AddressStop, FirstUnlisted, SecondUnlisted}
 use Rattle.execution.proofs.StopConditions.{stops_5, stops_6, stops_7, stops_12}
@@ -227,21 +227,23 @@ module _ (s : Settings) (free : Option ℕ) (m : Lh5801) (p : Pages) where
       ↔ (Accepted s m p × ComesTo s.inputs free s.limit m p (λ f k q. NotFull f × SecondUnlisted s.inputs k q b))
   number_6 b = stop_where (Unlisted (AfterFd b)) (λ k q. stops_6 k s.inputs q b)
 
-  pub number_7 : (call_number s free m p ≡ 7)
-      ↔ (Accepted s m p × ComesTo s.inputs free s.limit m p (λ f k q. NotFull f × HaltedStop s.inputs k))
-  number_7 =
-      let t = stop_where Halted (λ k q. stops_7 k s.inputs q) in (
-        λ e. t.0 (e, byte_0 (call_of s free m p).answer.end (λ z. omega arith) (λ z. omega arith)),
+  -- the same of a stop without a byte, which its number alone tells
+  number_where : (x : Stop) {C : Lh5801 → Pages → Type 0} → stop_number x ≢ 5 → stop_number x ≢ 6
+      → ((k : Lh5801) (q : Pages) → ((one_step s.inputs k q).answer ≡ stopped x) ↔ C k q)
+      → (call_number s free m p ≡ stop_number x) ↔ (Accepted s m p × ComesTo s.inputs free s.limit m p (λ f k q. NotFull f × C k q))
+  number_where x five six g =
+      let t = stop_where x g in (
+        λ e. t.0 (e, byte_0 (call_of s free m p).answer.end (λ z. five (sym e ∙ z)) (λ z. six (sym e ∙ z)) ∙ sym (stop_byte_0 x five six)),
         λ r. (t.1 r).0,
       )
 
+  pub number_7 : (call_number s free m p ≡ 7)
+      ↔ (Accepted s m p × ComesTo s.inputs free s.limit m p (λ f k q. NotFull f × HaltedStop s.inputs k))
+  number_7 = number_where Halted (λ z. omega arith) (λ z. omega arith) (λ k q. stops_7 k s.inputs q)
+
   pub number_12 : (call_number s free m p ≡ 12)
       ↔ (Accepted s m p × ComesTo s.inputs free s.limit m p (λ f k q. NotFull f × AddressStop s.inputs k))
-  number_12 =
-      let t = stop_where AtAddress (λ k q. stops_12 k s.inputs q) in (
-        λ e. t.0 (e, byte_0 (call_of s free m p).answer.end (λ z. omega arith) (λ z. omega arith)),
-        λ r. (t.1 r).0,
-      )
+  number_12 = number_where AtAddress (λ z. omega arith) (λ z. omega arith) (λ k q. stops_12 k s.inputs q)
 
 -- the states: a completed step adds at most 255, as the idle figure has 8 bits
 run_states : (n : ℕ) (inputs : Inputs) → inputs.idle ≤ 255 → (free : Option ℕ) (m : Lh5801) (p : Pages)

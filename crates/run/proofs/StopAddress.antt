@@ -1,6 +1,6 @@
 -- A run that ends with 12 is a beginning of the run without a stop address and did not pass over it; any other is that run.
 use Rattle.std.proofs.Common.{◌≡◌, ℕ, suc, ◌+◌, ◌<◌, ◌≤◌, ◌≢◌, ◌↔◌, List, [], ◌++◌, map, sym, refl, ap, ◌∙◌, subst, ⊎_elim, true≢false, le_of_suc-le-suc, arith}
-use Rattle.std.specs.Prelude.{Option, Some}
+use Rattle.std.specs.Prelude.{Option, None, Some}
 use Rattle.arithmetic.specs.declared.record.Lh5801.{Lh5801}
 use Rattle.execution.specs.declared.Inputs.{Inputs}
 use Rattle.execution.specs.declared.Stop.{Stop}
@@ -22,7 +22,7 @@ use Rattle.run.specs.BusLog.{free_after, NotFull}
 use Rattle.run.specs.Run.{call_result, no_step, completed, join, one_step, onward, run_of, call_unless, call_of, settings}
 use Rattle.run.specs.Reaches.{Reaches, start, next}
 use Rattle.run.specs.StopAddress.{without_address, NotPassed, StopsThere, code, AddressStep, address_steps, AddressCall, address_calls}
-use Rattle.run.proofs.Acceptance.{limit_some, limit_most, call_run}
+use Rattle.run.proofs.Acceptance.{limit_some, limit_most, accepted_by, call_run, call_end}
 use Rattle.run.proofs.BusLog.{after_none}
 use Rattle.run.proofs.AccessOrders.{stepped}
 use Rattle.run.proofs.Calls.{completes_with, stops_with}
@@ -174,12 +174,6 @@ module _ (s : Settings) (free : Option ℕ) (m : Lh5801) (p : Pages) (h : Accept
       let c = call_run s free m p h in
       rw (call_run (without_address s) free m p any_address, c) (run_rest s.inputs s.limit free m p rest (rw c at e))
 
-  -- where it does not end with 12, the two are the same
-  pub never_there : (call_of s free m p).answer.end ≢ Step AtAddress → call_of (without_address s) free m p ≡ call_of s free m p
-  never_there z =
-      let c = call_run s free m p h in
-      rw (call_run (without_address s) free m p any_address, c) (run_same s.inputs s.limit free m p (rw c at z))
-
   -- a call that begins there ends there, with no step done: so does every later one
   pub at_once : NotFull free → AddressStop s.inputs m → call_of s free m p ≡ call_result (Step AtAddress) 0 0 m p []
   at_once f a =
@@ -191,6 +185,25 @@ module _ (s : Settings) (free : Option ℕ) (m : Lh5801) (p : Pages) (h : Accept
         there = a;
         not_passed = λ i k q t l b x. absurd (omega (arith, b));
       })
+
+-- any call: where it does not end with 12, the stop address has changed nothing
+module _ (s : Settings) (free : Option ℕ) (m : Lh5801) (p : Pages) where
+  refused_same : {e : End} → not_accepted s m p ≡ Some e → call_of (without_address s) free m p ≡ call_of s free m p
+  unfolding not_accepted
+  refused_same e = call_end (without_address s) free m p e ∙ sym (call_end s free m p e)
+
+  call_same : Accepted s m p → (call_of s free m p).answer.end ≢ Step AtAddress → call_of (without_address s) free m p ≡ call_of s free m p
+  call_same h z =
+      let c = call_run s free m p h in
+      rw (call_run (without_address s) free m p (any_address s free m p h), c) (run_same s.inputs s.limit free m p (rw c at z))
+
+  pub never_there : (call_of s free m p).answer.end ≢ Step AtAddress → call_of (without_address s) free m p ≡ call_of s free m p
+  never_there = go (not_accepted s m p) refl
+    where
+      go : (x : Option End) → not_accepted s m p ≡ x → (call_of s free m p).answer.end ≢ Step AtAddress
+          → call_of (without_address s) free m p ≡ call_of s free m p
+      go (Some e) r z = refused_same r
+      go None r z = call_same (accepted_by s m p r) z
 
 -- the cases of specs/StopAddress.antt
 pub address_steps_hold : map (λ (c : AddressStep). stepped (inputs_of 0 c.idle c.stop) c.cpu code) address_steps ≡ map (λ (c : AddressStep). c.comes) address_steps

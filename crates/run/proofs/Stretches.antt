@@ -1,5 +1,6 @@
--- The loop over stretches of steps, with a log that may be lent: what it keeps, and how a stretch, a stop, a full log and the limit go on from it.
-use Rattle.std.proofs.Common.{◌≡◌, ℕ, ◌+◌, ◌-◌, ◌<◌, ◌≤◌, Bool, true, false, not, ◌&&◌, List, [], ◌++◌, length, inl, inr, sym, refl, ap, ◌∙◌, append-nil, true≢false, ltb-false, arith, subst}
+-- The loop over stretches of steps, with a log that may be lent: what it keeps, and how a stretch, a stop, a full log, the stop address and the limit go
+-- on from it.
+use Rattle.std.proofs.Common.{◌≡◌, ℕ, ◌+◌, ◌-◌, ◌<◌, ◌≤◌, Bool, true, false, not, ◌&&◌, List, [], ◌++◌, length, sym, refl, ap, ◌∙◌, append-nil, true≢false, ltb-false, arith, subst}
 use Rattle.std.specs.Prelude.{Option, None, Some, Ok, Err, is_some}
 use Rattle.arithmetic.specs.declared.record.Lh5801.{Lh5801}
 use Rattle.execution.specs.declared.Inputs.{Inputs}
@@ -26,7 +27,7 @@ use Rattle.run.specs.Run.{CallResult, call_result, one_step, run_of, call_of, se
 use Rattle.run.specs.Reaches.{Reaches, start, next}
 use Rattle.run.specs.declared.Answer.{Answer}
 use Rattle.run.specs.Answers.{free_if, Logged, CallAnswers}
-use Rattle.run.specs.Code.Leads.{AheadIs, Leads, LeadsIn, Passes, BeforeStretch, unwatched, full, at_address, one_step_alone}
+use Rattle.run.specs.Code.Leads.{AheadIs, Leads, LeadsIn, BeforeStretch, unwatched, full, at_address, one_step_alone}
 use Rattle.run.specs.Code.States.{answer_of, states_between, AnswersIn}
 use Rattle.run.proofs.BusLog.{after_none, after_append, logged_none, logged_then, logged_free}
 use Rattle.run.proofs.Acceptance.{call_run, accepted_by}

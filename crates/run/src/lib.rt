@@ -43,7 +43,7 @@ pub enum End {
 }
 
 impl End {
-    /// Document 01's number of a call's end.
+    /// The number of a call's end: document 01's, and document 02's 11 and 12.
     pub fn number(self) -> u8
         ensures { result ≡ end_number self }
     {

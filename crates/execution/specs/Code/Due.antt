@@ -1,5 +1,5 @@
--- How the code is built, and need not be believed: proofs/DueTest.antt shows that its test is Conditions.antt's `Due`, and proofs/DueAgain.antt
--- that after a settled instruction one is due again.
+-- How the code is built, and need not be believed: proofs/DueTest.antt shows that its tests are Conditions.antt's `Due` and `AddressStop`, and
+-- proofs/DueAgain.antt that after a settled instruction one is due again.
 -- When an instruction is due, and after which instructions one is due again: what the loop over instructions goes by.
 use Rattle.std.specs.Prelude.{◌≡◌, Bool, true, false, cond, not, ◌&&◌, ◌||◌}
 use Rattle.arithmetic.specs.declared.record.Lh5801.{Lh5801}

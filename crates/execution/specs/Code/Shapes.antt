@@ -180,15 +180,15 @@ unfoldable pub instruction_accesses : Lh5801 → Pages → List Access
 instruction_accesses m pages = fetched_accesses m pages (opcode_at pages m.p) (shape_by (opcode_at pages m.p).value)
 
 -- with BF set: none where IR0 is set; those of an accepted interrupt, where `first` says that IR1 is set or the timer reached; none where the
--- unit is halted, whether the step waits or stops; else those of the instruction that is due
-abbrev pub powered_accesses : Lh5801 → Pages → Bool → List Access → List Access
-powered_accesses m pages first due =
+-- unit is halted, whether the step waits or stops; else those of the instruction
+abbrev pub powered_accesses : Lh5801 → Pages → Bool → List Access
+powered_accesses m pages first =
     cond m.ir0 []
     (cond (first && has_flag m.t IE) (accept_accesses m pages 0xFFFA)
     (cond (m.ir2 && has_flag m.t IE) (accept_accesses m pages 0xFFF8)
     (cond m.is_halted []
-    due)))
+    (instruction_accesses m pages))))
 
--- the accesses of the coming step, by those of an instruction that is due
-abbrev pub step_accesses : Lh5801 → Pages → List Access → List Access
-step_accesses m pages due = cond m.bf (powered_accesses m pages (m.is_timer_reached || m.ir1) due) []
+-- the accesses of the coming step
+abbrev pub step_accesses : Lh5801 → Pages → List Access
+step_accesses m pages = cond m.bf (powered_accesses m pages (m.is_timer_reached || m.ir1)) []

@@ -49,11 +49,13 @@ impl Arguments {
         text.parse().map_err(|_| format!("{name} wants a number, not {text}"))
     }
 
-    /// An option's address, in up to four hexadecimal digits; none without the option.
+    /// An option's address, in one to four hexadecimal digits; none without the option.
     pub fn address(&self, name: &str) -> Result<Option<u16>, String> {
         let Some(text) = self.option(name) else { return Ok(None) };
-        let address = u16::from_str_radix(text, 16).ok().filter(|_| !text.starts_with('+'));
-        let wrong = format!("{name} wants an address of up to four hexadecimal digits, not {text}");
+        let is_short = text.len() <= 4 && text.bytes().all(|byte| byte.is_ascii_hexdigit());
+        let address = u16::from_str_radix(text, 16).ok().filter(|_| is_short);
+        let wrong =
+            format!("{name} wants an address of one to four hexadecimal digits, not {text}");
         address.map(Some).ok_or(wrong)
     }
 
@@ -88,5 +90,30 @@ impl Arguments {
     pub fn count(&self) -> Result<u64, String> {
         let text = self.positional(1)?.ok_or("a number of calls is missing")?;
         text.parse().map_err(|_| format!("not a number of calls: {text}"))
+    }
+}
+
+#[cfg(test)]
+mod tests {
+    use super::Arguments;
+
+    /// What `--stop` with this text gives.
+    fn address(text: &str) -> Result<Option<u16>, String> {
+        let words = ["--stop", text].map(String::from);
+        Arguments::parse(&words, &["--stop="])?.address("--stop")
+    }
+
+    #[test]
+    fn addresses_have_one_to_four_digits() {
+        let texts = ["0", "0000", "3", "00aB", "FFFF", "ffff"];
+        let wanted = [0x0000, 0x0000, 0x0003, 0x00AB, 0xFFFF, 0xFFFF];
+        assert_eq!(texts.map(address), wanted.map(|address| Ok(Some(address))));
+        let others = ["", "00001", "10000", "+1", "-1", "+FFF", "0x1", "G", "1 ", " 1", "\u{661}"];
+        assert!(others.into_iter().all(|text| address(text).is_err()));
+    }
+
+    #[test]
+    fn without_the_option_there_is_no_address() {
+        assert_eq!(Arguments::default().address("--stop"), Ok(None));
     }
 }

@@ -92,8 +92,8 @@ impl Reader<'_> {
     }
 }
 
-/// Reads a whole campaign file. It has no idle figure, no log and no read-only part: its call is
-/// given 0 and none.
+/// Reads a whole campaign file. It has no idle figure, no log, no read-only part and no stop address:
+/// its call is given 0 and none.
 pub fn read(bytes: &[u8]) -> Result<Call, Defect> {
     let mut reader = Reader { bytes, place: 0 };
     let call = Call {

@@ -347,7 +347,8 @@ impl Session<'_> {
         Ok(())
     }
 
-    /// A new record and idle figure, and often a program where it begins.
+    /// A new record, idle figure, log, read-only part and stop address, and often a program where it
+    /// begins.
     fn start(&mut self) {
         self.record = random::record(&mut self.random, self.lengths);
         self.inputs.idle = self.idle();
@@ -461,8 +462,8 @@ impl Session<'_> {
         has_more && limit <= LOGGED_LIMIT
     }
 
-    /// The call that comes next, with the port's pages and, where the session has one, its log, and
-    /// its read-only part.
+    /// The call that comes next, with the port's pages, the start's idle figure and stop address and,
+    /// where the session has them, its log and its read-only part.
     fn take_call(&mut self, limit: u32) -> Call {
         let (record, inputs) = (self.record, self.inputs);
         let (bus_log, read_only) = match self.is_whole(limit) {
@@ -482,7 +483,7 @@ impl Session<'_> {
         let port = port::call(&self.record, inputs, limit, pages, None, ReadOnly::default());
         self.compare_bare(&returned, &port)?;
         self.counts.call(&self.record, &returned, self.lengths);
-        self.counts.stop_addresses.add_end(inputs.stop_address, &port, &self.pages[0]);
+        self.counts.stop_addresses.add_end(inputs.stop_address, &port, &self.pages);
         Ok(returned)
     }
 
@@ -681,8 +682,8 @@ fn run_threads(settings: &Settings) -> (Counts, Option<Found>) {
     })
 }
 
-/// Runs the differential; true where nothing differs and every opcode and every idle figure came
-/// often enough.
+/// Runs the differential; true where nothing differs, every opcode, every idle figure and logs came
+/// often enough, and read-only parts and stop addresses did all that they have to.
 pub fn run(settings: &Settings) -> bool {
     let Settings { steps, seed, threads } = settings;
     println!("seed {seed}, {threads} threads, original against port");
@@ -709,7 +710,7 @@ fn share(least: u64, steps: u64) -> u64 {
 }
 
 /// Whether every opcode was executed, every idle figure waited with, and steps made with a log, as
-/// often as it has to be.
+/// often as it has to be, and whether read-only parts and stop addresses did all that they can do.
 fn came_often_enough(counts: &Counts, steps: u64) -> bool {
     let least = share(LEAST, steps);
     let rarest = (0..2).map(|page| counts.rarest(page).1).min().unwrap_or(0);

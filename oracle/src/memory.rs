@@ -30,6 +30,18 @@ fn split(address: u32) -> (usize, usize) {
     ((address >> 16) as usize, (address & 0xFFFF) as usize)
 }
 
+/// The byte that an address of these pages reads: FF past a page's end.
+#[inline]
+pub fn byte_at(pages: &[Vec<u8>; 2], address: u32) -> u8 {
+    let (page, offset) = split(address);
+    pages[page].get(offset).copied().unwrap_or(0xFF)
+}
+
+/// The byte of the code at P, and the one behind it, which is at 0000 where P is FFFF.
+pub fn code_at(pages: &[Vec<u8>; 2], p: u16) -> [u8; 2] {
+    [p, p.wrapping_add(1)].map(|at| byte_at(pages, at.into()))
+}
+
 impl Memory {
     /// A memory of which nothing is read-only.
     pub fn new(pages: [Vec<u8>; 2]) -> Memory {
@@ -48,8 +60,7 @@ impl Memory {
 
     #[inline]
     pub fn read(&self, address: u32) -> u8 {
-        let (page, offset) = split(address);
-        let byte = self.pages[page].get(offset).copied().unwrap_or(0xFF);
+        let byte = byte_at(&self.pages, address);
         self.accesses.borrow_mut().push(Access::read(address, byte));
         byte
     }
@@ -124,8 +135,21 @@ impl Memory {
 
 #[cfg(test)]
 mod tests {
-    use super::Memory;
+    use super::{byte_at, code_at, Memory};
     use crate::call::{Access, Call, ReadOnly};
+
+    /// Behind FFFF the code goes on at 0000, and the addresses at page 1. Past an end it is FF.
+    #[test]
+    fn bytes_of_pages() {
+        let mut pages = [vec![0x38; 0x1_0000], vec![0x5A]];
+        (pages[0][0x0000], pages[0][0xFFFF]) = (0xCC, 0xFD);
+        assert_eq!(code_at(&pages, 0xFFFF), [0xFD, 0xCC]);
+        assert_eq!(code_at(&pages, 0xFFFE), [0x38, 0xFD]);
+        assert_eq!([0xFFFF, 0x1_0000, 0x1_0001].map(|at| byte_at(&pages, at)), [0xFD, 0x5A, 0xFF]);
+        pages[0].truncate(1);
+        let codes = [0, 1, 0xFFFF].map(|p| code_at(&pages, p));
+        assert_eq!(codes, [[0xCC, 0xFF], [0xFF, 0xFF], [0xFF, 0xCC]]);
+    }
 
     /// Two bytes of page 0 are protected. A write there is an access and changes nothing; a read
     /// after it finds the old byte; page 1 is stored to at the same offset.

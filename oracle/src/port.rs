@@ -269,9 +269,9 @@ fn run_without_log(used: usize, run: impl FnOnce(Lent) -> usize) -> Result<(), S
     }
 }
 
-/// Runs a call on these pages, with this log and this read-only part. Half of the calls have bits set
-/// above the fields' widths. The words are a block of the heap, so that valgrind tells an access past
-/// their end.
+/// Runs a call on these pages, with these inputs (a stop address among them or none), this log and
+/// this read-only part. Half of the calls have bits set above the fields' widths. The words are a block
+/// of the heap, so that valgrind tells an access past their end.
 pub fn call(
     given: &Record,
     inputs: Inputs,

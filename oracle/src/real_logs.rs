@@ -37,7 +37,8 @@ pub fn made(random: &mut Random) -> Made {
     Made { kind, pair: Pair { log, analyser }, bit: None, wanted: Some(wanted) }
 }
 
-/// A random call of `compare`. Where that has no log it gets one with room for many steps.
+/// A random call as `compare` makes them, without a read-only part and without a stop address. Where
+/// it has no log it gets one with room for many steps.
 fn logged_call(random: &mut Random) -> Call {
     let mut call = random::logged_call(random);
     if call.bus_log.is_none() {

@@ -4,6 +4,7 @@
 #![forbid(unsafe_code)]
 
 use crate::call::{Call, Side};
+use crate::memory::byte_at;
 use crate::model::Model;
 use crate::protect;
 use crate::random::Random;
@@ -32,7 +33,7 @@ pub fn stop_address(random: &mut Random, call: &Call) -> u16 {
         3 => turned(random, p),
         4 => random.pick(&[0x0000, 0xFFFF]),
         5 => random.word(),
-        6 => vector(random, &call.pages[0]),
+        6 => vector(random, &call.pages),
         7 | 8 => beside(random, call),
         _ => reached(random, call),
     }
@@ -43,16 +44,16 @@ fn turned(random: &mut Random, address: u16) -> u16 {
     address ^ 1 << random.below(16)
 }
 
-/// What a vector names: that of the timer, that of the line, or any of the 256.
-fn vector(random: &mut Random, page: &[u8]) -> u16 {
-    let any = 0xFF00 + random.below(255) as usize;
+/// What a vector names: that of the timer, that of the line, or any of the 256. The second byte of
+/// vector FF is at 10000, in page 1.
+fn vector(random: &mut Random, pages: &[Vec<u8>; 2]) -> u16 {
+    let any = 0xFF00 + random.below(256) as u32;
     let at = random.pick(&[0xFFFA, 0xFFF8, any]);
-    let byte = |at: usize| page.get(at).copied().unwrap_or(0xFF);
-    u16::from_be_bytes([byte(at), byte(at + 1)])
+    u16::from_be_bytes([at, at + 1].map(|at| byte_at(pages, at)))
 }
 
-/// One below or above an address that the run comes to, the same with one bit turned, or with the
-/// same low byte.
+/// One below an address that the run comes to, one or two above it, its low byte alone, or the address
+/// with one of its bits turned.
 fn beside(random: &mut Random, call: &Call) -> u16 {
     let address = reached(random, call);
     match random.below(8) {
@@ -80,12 +81,13 @@ fn reached(random: &mut Random, call: &Call) -> u16 {
 
 #[cfg(test)]
 mod tests {
-    use super::call;
+    use super::{call, vector};
     use crate::call::{Call, Side};
     use crate::original::Original;
     use crate::protect;
     use crate::random::Random;
     use crate::stop_counts::Stops;
+    use std::collections::BTreeSet;
 
     fn calls(count: u64) -> impl Iterator<Item = Call> {
         (0..count).map(|index| call(&mut Random::new(1, index)))
@@ -100,6 +102,18 @@ mod tests {
         assert!((2800..3200).contains(&count(&|address| address.is_some())));
         assert!(count(&|address| *address == Some(0)) > 50);
         assert!(count(&|address| *address == Some(0xFFFF)) > 50);
+    }
+
+    /// Byte i of the vectors is i, and page 1 begins with 5A: vector i names i and i + 1, FF names FF5A.
+    #[test]
+    fn each_vector_is_named() {
+        let page0 = (0..0x1_0000).map(|at| at as u8).collect();
+        let pages = [page0, vec![0x5A]];
+        let mut random = Random::new(1, 0);
+        let named: BTreeSet<_> = (0..10_000).map(|_| vector(&mut random, &pages)).collect();
+        assert_eq!(named, (0..255).map(|i| i * 0x101 + 1).chain([0xFF5A]).collect());
+        let short = [vec![0x00; 0xFF00], vec![]];
+        assert_eq!(vector(&mut random, &short), 0xFFFF);
     }
 
     /// But for the stop address it is the call without one.

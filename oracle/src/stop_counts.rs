@@ -5,6 +5,7 @@
 use std::fmt;
 
 use crate::call::{Access, Answer, Call, Log, Record};
+use crate::memory::code_at;
 use crate::opcodes::length;
 
 /// What a call may do with its stop address.
@@ -15,9 +16,10 @@ pub enum Met {
     Later,
     /// Ended with 12 right after an interrupt's entry.
     Target,
-    /// Ended with 12 where the step would have stopped with 5 or 6; with timer reached set.
+    /// Ended with 12 where the step would have stopped with 5 or 6; with timer reached set; at FFFF.
     Unlisted,
     Reached,
+    Highest,
     /// Ended with 11, or with 0 at the limit, where an instruction was due at the address.
     Full,
     Limit,
@@ -36,12 +38,13 @@ pub enum Met {
 
 use Met::*;
 
-const ALL: [(Met, &str); 14] = [
+const ALL: [(Met, &str); 15] = [
     (First, "12 before the first step"),
     (Later, "12 later"),
     (Target, "12 after an entry"),
     (Unlisted, "12 before 5 or 6"),
     (Reached, "12 with timer reached"),
+    (Highest, "12 at FFFF"),
     (Full, "11 there"),
     (Limit, "the limit there"),
     (Off, "BF clear there"),
@@ -107,7 +110,7 @@ impl Stops {
     /// A call, with an answer that tells the accesses.
     pub fn add(&mut self, call: &Call, answer: &Answer) {
         let (Some(address), Some(log)) = (call.inputs.stop_address, &answer.log) else { return };
-        let mut met = ended(address, answer, &answer.pages[0]);
+        let mut met = ended(address, answer, &answer.pages);
         let steps = begun(answer, log);
         // Nothing inside the unit ends BF clear, so its steps come after those with an access.
         let busy = steps.iter().rposition(|step| !step.accesses.is_empty());
@@ -132,10 +135,10 @@ impl Stops {
         self.count(&met);
     }
 
-    /// A call of which the end alone is known: number, steps, end record, and page 0 after it.
-    pub fn add_end(&mut self, stop_address: Option<u16>, answer: &Answer, page: &[u8]) {
+    /// A call of which the end alone is known: number, steps, end record, and the pages after it.
+    pub fn add_end(&mut self, stop_address: Option<u16>, answer: &Answer, pages: &[Vec<u8>; 2]) {
         if let Some(address) = stop_address {
-            self.count(&ended(address, answer, page));
+            self.count(&ended(address, answer, pages));
         }
     }
 
@@ -159,7 +162,7 @@ impl Stops {
 }
 
 /// What a call's end does with the stop address.
-fn ended(address: u16, answer: &Answer, page: &[u8]) -> Vec<Met> {
+fn ended(address: u16, answer: &Answer, pages: &[Vec<u8>; 2]) -> Vec<Met> {
     let record = &answer.record;
     let is_due = record.is_instruction_due() && record.p == address;
     match answer.number {
@@ -168,18 +171,15 @@ fn ended(address: u16, answer: &Answer, page: &[u8]) -> Vec<Met> {
         11 if is_due => vec![Full],
         12 => {
             let when = if answer.steps == 0 { First } else { Later };
-            let unlisted = is_unlisted(page, record.p).then_some(Unlisted);
+            // The step would have stopped with 5 or 6.
+            let is_unlisted = length(code_at(pages, record.p)) == 0;
+            let unlisted = is_unlisted.then_some(Unlisted);
             let reached = record.is_timer_reached.then_some(Reached);
-            [Some(when), unlisted, reached].into_iter().flatten().collect()
+            let highest = (record.p == 0xFFFF).then_some(Highest);
+            [Some(when), unlisted, reached, highest].into_iter().flatten().collect()
         }
         _ => vec![],
     }
-}
-
-/// The bytes at this place of page 0 are no listed instruction.
-fn is_unlisted(page: &[u8], p: u16) -> bool {
-    let byte = |at: u16| page.get(usize::from(at)).copied().unwrap_or(0xFF);
-    length([byte(p), byte(p.wrapping_add(1))]) == 0
 }
 
 /// What a step with P at the stop address is. It is the last one but for steps without an access.
@@ -197,7 +197,7 @@ impl fmt::Display for Stops {
         let counts: Vec<_> = self.met.iter().zip(ALL).collect();
         let words: Vec<_> =
             counts.iter().map(|(count, (_, name))| format!("{name} {count}")).collect();
-        let [ends, steps] = [&words[..7], &words[7..]].map(|words| words.join(", "));
+        let [ends, steps] = [&words[..8], &words[8..]].map(|words| words.join(", "));
         write!(f, "{} calls with a stop address: {ends},\n  {steps}", self.calls)
     }
 }
@@ -232,6 +232,8 @@ mod tests {
         assert_eq!(met(on(), &[0x38], 3, 0), [Met::First]);
         assert_eq!(met(on(), &[0x31], 3, 0), [Met::First, Met::Unlisted]);
         assert_eq!(met(reached, &[0x38], 3, 0), [Met::First, Met::Reached]);
+        let last = Record { p: 0xFFFF, ..on() };
+        assert_eq!(met(last, &[0x38; 0x1_0000], 3, 0xFFFF), [Met::First, Met::Highest]);
         assert_eq!(met(on(), &[0x38, 0x38], 3, 1), [Met::Later]);
         assert_eq!(met(on(), &[0x38, 0x38], 1, 1), [Met::Limit]);
         assert_eq!(met(on(), &[0x38, 0x38], 1, 2), [Met::Never]);
@@ -251,7 +253,7 @@ mod tests {
     fn steps_are_counted() {
         let entering = Record { ir1: true, t: 0x02, s: 0x0100, ..on() };
         assert_eq!(met(entering, &[0x38], 1, 0), [Met::Entry]);
-        let wanted = [Met::Later, Met::Target, Met::Unlisted];
+        let wanted = [Met::Later, Met::Target, Met::Unlisted, Met::Highest];
         assert_eq!(met(entering, &[0x38], 2, 0xFFFF), wanted);
         assert_eq!(met(on(), &[0xFD, 0xB1], 3, 2), [Met::Waiting]);
         assert_eq!(met(on(), &[0xFD, 0x4C], 3, 2), [Met::Off]);

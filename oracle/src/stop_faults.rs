@@ -5,6 +5,7 @@
 
 use crate::call::{refusal, Access, Answer, BusLog, Call, Record, Side};
 use crate::compare::Comparison;
+use crate::memory::code_at;
 use crate::model::Model;
 use crate::opcodes::length;
 use crate::random::Random;
@@ -142,11 +143,9 @@ impl Side for Wrong {
     }
 }
 
-/// The byte of page 0 at P, and the one behind it.
+/// The byte of the code at P, and the one behind it.
 fn code(call: &Call) -> [u8; 2] {
-    let p = call.record.p;
-    let byte = |at: u16| call.pages[0].get(usize::from(at)).copied().unwrap_or(0xFF);
-    [byte(p), byte(p.wrapping_add(1))]
+    code_at(&call.pages, call.record.p)
 }
 
 impl Wrong {

@@ -1,6 +1,6 @@
 //! Directed calls with a stop address (document 02, F-5): every opcode at it and before it, every byte
 //! of an instruction, every kind of step with P there, entries and what they come to, both ends of
-//! page 0, full logs and limits.
+//! page 0, full logs and limits, and 1 to 4.
 
 #![forbid(unsafe_code)]
 
@@ -11,7 +11,8 @@ use crate::logs::{self, filled, garbage, instruction, on, Calls, Place, PLACES};
 use crate::opcodes::length;
 use crate::original::Original;
 
-/// All groups, with a title each. Every call comes without a log and with one, and every fourth one
+/// All groups, with a title each. In the group of 11 every call has a log, and none is made without its
+/// stop address. In each other group every call comes without a log and with one, and every fourth one
 /// without its stop address besides.
 pub fn groups() -> Vec<(&'static str, Calls)> {
     vec![
@@ -345,10 +346,8 @@ mod tests {
     }
 
     #[test]
-    fn the_list_has_a_hundred_and_fifty_short_calls() {
-        let calls = short();
-        assert!((130..=170).contains(&calls.len()), "{}", calls.len());
-        assert!(calls.iter().all(|(sparse, _)| sparse.limit <= 7 && sparse.call().is_ok()));
+    fn the_calls_of_the_replay_list_are_short() {
+        assert!(short().iter().all(|(sparse, _)| sparse.limit <= 7 && sparse.call().is_ok()));
     }
 
     /// A call of this code at 0, with S at 0040.

@@ -47,8 +47,8 @@ impl Inputs {
         }
     }
 
-    /// P is the stop address.
-    pub fn stops_at(self, p: u16) -> bool
+    // P is the stop address.
+    fn stops_at(self, p: u16) -> bool
         ensures { result ≡ stops_at self p }
     {
         self.stop_address == Some(p)

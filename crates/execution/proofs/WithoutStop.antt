@@ -1,4 +1,4 @@
--- A step that does not stop before the stop address is the step without ir1_accepted.
+-- A step that does not stop before the stop address is the step without one.
 use Rattle.std.proofs.Common.{◌≡◌, ◌+◌, Bool, true, false, ◌||◌, sym, refl, ap, ◌∙◌}
 use Rattle.std.proofs.Math.Path.{fun_ext}
 use mathlib.Core.Bool.{false≢true}

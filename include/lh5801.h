@@ -3,7 +3,8 @@
  * comparison of its bus log with an analyser's list.
  *
  * "Document 01" is the requirement that the unit is proved against; the numbers below are its own,
- * but for 11 and 12. "F-1" to "F-5" are requests of document 02, which came after it; those are its.
+ * but for 11 and 12, which are document 02's. "F-1" to "F-5" are requests of document 02, which came
+ * after it.
  * `rt lib` in crates/lh5801 writes crates/lh5801/out/liblh5801.a for x86-64.
  * Usable from C (C99 and later) and C++.
  *

@@ -10,14 +10,14 @@ inputs_of key idle stop = record { keyboard = key; idle = idle; stop_address = s
 abbrev pub of_keyboard : ℕ → Inputs
 of_keyboard key = inputs_of key 0 None
 
+-- the same inputs without a stop address
+abbrev pub without_stop : Inputs → Inputs
+without_stop inputs = record inputs { stop_address = None }
+
 -- "P equals the stop address"; where none is given it does not
 abbrev pub equals_address : Option ℕ → ℕ → Bool
 equals_address None p = false
 equals_address (Some address) p = address == p
-
--- the same inputs without a stop address
-abbrev pub without_stop : Inputs → Inputs
-without_stop inputs = record inputs { stop_address = None }
 
 abbrev pub stops_at : Inputs → ℕ → Bool
 stops_at inputs p = equals_address inputs.stop_address p

@@ -3,7 +3,7 @@ use Rattle.std.specs.Prelude.{◌≡◌, ℕ, zero, suc, ◌+◌, ◌*◌, ◌<�
 use Rattle.std.specs.Int.{from_bool}
 use Rattle.pages.specs.Pages.{read_only_of}
 use Rattle.pages.specs.Prog.{Access}
-use Rattle.execution.specs.Inputs.{inputs_of}
+use Rattle.execution.specs.Inputs.{of_keyboard}
 use Rattle.run.specs.declared.Settings.{Settings}
 use Rattle.run.specs.declared.campaign_file.Parsed.{Parsed}
 use Rattle.run.specs.declared.campaign_file.Refusal.{Refusal}
@@ -55,7 +55,7 @@ stop_address_in number = cond (nat_lt 65535 number) None (Some number)
 
 -- what an item's call is given by its file, and by the stop address
 abbrev pub item_settings : ItemValue → Parsed → Settings
-item_settings item c = settings (inputs_of c.asked.keyboard 0 item.lent.stop_address) c.asked.limit
+item_settings item c = settings (record (of_keyboard c.asked.keyboard) { stop_address = item.lent.stop_address }) c.asked.limit
 
 -- a log whose entries are unused but for so many, if one is lent
 abbrev pub lent_log : Option ℕ → Option Log

@@ -21,7 +21,7 @@ use Rattle.run.specs.Acceptance.{Accepted, not_accepted}
 use Rattle.run.specs.BusLog.{free_after, NotFull}
 use Rattle.run.specs.Run.{call_result, no_step, completed, join, one_step, onward, run_of, call_unless, call_of, settings}
 use Rattle.run.specs.Reaches.{Reaches, start, next}
-use Rattle.run.specs.StopAddress.{without_address, NotPassed, StopsThere, code, AddressStep, address_steps, AddressCall, address_calls}
+use Rattle.run.specs.StopAddress.{NotPassed, StopsThere, code, AddressStep, address_steps, AddressCall, address_calls}
 use Rattle.run.proofs.Acceptance.{limit_some, limit_most, accepted_by, call_run, call_end}
 use Rattle.run.proofs.BusLog.{after_none}
 use Rattle.run.proofs.AccessOrders.{stepped}
@@ -161,18 +161,18 @@ module _ (s : Settings) (free : Option ℕ) (m : Lh5801) (p : Pages) (h : Accept
       record { page0 = h.page0; page1 = h.page1; timer = h.timer; limit = ⊎_elim (λ z. omega (arith, i)) (λ z. omega (arith, x.fewer, limit_most h)) } in
       (completes_with (settings (without_stop s.inputs) j) free m p few j t k q l).1 (refl, x.reached)
 
-  any_address : Accepted (without_address s) m p
+  any_address : Accepted (settings (without_stop s.inputs) s.limit) m p
   any_address = record { page0 = h.page0; page1 = h.page1; timer = h.timer; limit = h.limit }
 
   -- whatever it ends with, the run without one is this one, and then the rest from what it left
   pub goes_on : (rest : ℕ) → (call_of s free m p).answer.steps + rest ≡ s.limit
-      → call_of (without_address s) free m p
+      → call_of (settings (without_stop s.inputs) s.limit) free m p
       ≡ join (call_of s free m p)
       (run_of rest (without_stop s.inputs) (free_after free (call_of s free m p).bus) (call_of s free m p).answer.cpu (call_of s free m p).pages)
   unfolding more
   goes_on rest e =
       let c = call_run s free m p h in
-      rw (call_run (without_address s) free m p any_address, c) (run_rest s.inputs s.limit free m p rest (rw c at e))
+      rw (call_run (settings (without_stop s.inputs) s.limit) free m p any_address, c) (run_rest s.inputs s.limit free m p rest (rw c at e))
 
   -- a call that begins there ends there, with no step done: so does every later one
   pub at_once : NotFull free → AddressStop s.inputs m → call_of s free m p ≡ call_result (Step AtAddress) 0 0 m p []
@@ -188,20 +188,20 @@ module _ (s : Settings) (free : Option ℕ) (m : Lh5801) (p : Pages) (h : Accept
 
 -- any call: where it does not end with 12, the stop address has changed nothing
 module _ (s : Settings) (free : Option ℕ) (m : Lh5801) (p : Pages) where
-  refused_same : {e : End} → not_accepted s m p ≡ Some e → call_of (without_address s) free m p ≡ call_of s free m p
+  refused_same : {e : End} → not_accepted s m p ≡ Some e → call_of (settings (without_stop s.inputs) s.limit) free m p ≡ call_of s free m p
   unfolding not_accepted
-  refused_same e = call_end (without_address s) free m p e ∙ sym (call_end s free m p e)
+  refused_same e = call_end (settings (without_stop s.inputs) s.limit) free m p e ∙ sym (call_end s free m p e)
 
-  call_same : Accepted s m p → (call_of s free m p).answer.end ≢ Step AtAddress → call_of (without_address s) free m p ≡ call_of s free m p
+  call_same : Accepted s m p → (call_of s free m p).answer.end ≢ Step AtAddress → call_of (settings (without_stop s.inputs) s.limit) free m p ≡ call_of s free m p
   call_same h z =
       let c = call_run s free m p h in
-      rw (call_run (without_address s) free m p (any_address s free m p h), c) (run_same s.inputs s.limit free m p (rw c at z))
+      rw (call_run (settings (without_stop s.inputs) s.limit) free m p (any_address s free m p h), c) (run_same s.inputs s.limit free m p (rw c at z))
 
-  pub never_there : (call_of s free m p).answer.end ≢ Step AtAddress → call_of (without_address s) free m p ≡ call_of s free m p
+  pub never_there : (call_of s free m p).answer.end ≢ Step AtAddress → call_of (settings (without_stop s.inputs) s.limit) free m p ≡ call_of s free m p
   never_there = go (not_accepted s m p) refl
     where
       go : (x : Option End) → not_accepted s m p ≡ x → (call_of s free m p).answer.end ≢ Step AtAddress
-          → call_of (without_address s) free m p ≡ call_of s free m p
+          → call_of (settings (without_stop s.inputs) s.limit) free m p ≡ call_of s free m p
       go (Some e) r z = refused_same r
       go None r z = call_same (accepted_by s m p r) z
 

@@ -12,13 +12,9 @@ use Rattle.run.specs.declared.Settings.{Settings}
 use Rattle.run.specs.declared.End.{End}
 use Rattle.run.specs.declared.End.TheVariants.{AllSteps, LogFull, Step}
 use Rattle.run.specs.BusLog.{free_after, NotFull}
-use Rattle.run.specs.Run.{CallResult, call_result, no_step, settings}
+use Rattle.run.specs.Run.{CallResult, call_result, no_step}
 use Rattle.run.specs.Reaches.{Reaches}
 use Rattle.run.specs.RecordNumbers.{record_of}
-
--- the same settings without a stop address
-abbrev pub without_address : Settings → Settings
-without_address s = settings (without_stop s.inputs) s.limit
 
 -- before none of the first j steps of the run without one an instruction was due with P at the stop address
 abbrev pub NotPassed : Settings → Option ℕ → Lh5801 → Pages → ℕ → Type 0

@@ -1,17 +1,16 @@
 -- Entries noted one after the other, and what a log then holds.
-use Rattle.std.proofs.Common.{◌≡◌, ℕ, suc, ◌+◌, ◌-◌, ◌%◌, ◌<◌, ◌≤◌, Bool, true, false, cond, not, ◌&&◌, ◌||◌, List, [], ◌∷◌, ◌++◌, map, length, take, drop, set, sym, refl, ap, ◌∙◌, add-zero, add-one, arith, length-append}
+use Rattle.std.proofs.Common.{◌≡◌, ℕ, suc, ◌+◌, ◌-◌, ◌%◌, ◌<◌, ◌≤◌, false, List, [], ◌∷◌, ◌++◌, map, length, take, drop, set, sym, refl, ap, ◌∙◌, add-zero, add-one, arith, length-append}
 use lib.ListN.{length-map}
 use lib.Seq.{sets, length-sets, sets-eq}
 use Rattle.pages.specs.Pages.{Pages, at}
 use Rattle.pages.specs.Prog.{Access, read_of, exec}
 use Rattle.pages.specs.Stack.{up16}
 use Rattle.arithmetic.specs.declared.record.Lh5801.{Lh5801}
-use Rattle.arithmetic.specs.Flags.{has_flag, IE}
 use Rattle.execution.specs.declared.Inputs.{Inputs}
 use Rattle.execution.specs.Step.{step_of}
 use Rattle.execution.specs.Completed.{completed_accesses}
 use Rattle.execution.specs.Code.Due.{stops_before_of}
-use Rattle.execution.specs.Code.Shapes.{bytes_from, accept_accesses, instruction_accesses, step_accesses}
+use Rattle.execution.specs.Code.Shapes.{bytes_from, step_accesses}
 use Rattle.execution.proofs.AccessesAhead.{step_accesses_ahead, completed_few}
 use Rattle.bus.specs.declared.BusLog.{BusLog}
 use Rattle.bus.specs.Log.{entry_of, noted}
@@ -50,33 +49,11 @@ grows_appends h p =
     let done = p.counted h in
     record { entries = done.0; used = done.1; lent = p.lent }
 
--- the coming step's accesses, by the tests in the order in which the code makes them
-abbrev pub tested : Lh5801 → Pages → List Access
-tested m pages =
-    cond (m.bf && not m.ir0)
-    (cond ((m.is_timer_reached || m.ir1) && has_flag m.t IE) (accept_accesses m pages 0xFFFA)
-    (cond (m.ir2 && has_flag m.t IE) (accept_accesses m pages 0xFFF8)
-    (cond (not m.is_halted) (instruction_accesses m pages) [])))
-    []
-
-tested_are : (m : Lh5801) (pages : Pages) → step_accesses m pages ≡ tested m pages
-tested_are m pages =
-    go m.bf m.ir0 m.is_halted ((m.is_timer_reached || m.ir1) && has_flag m.t IE) (m.ir2 && has_flag m.t IE)
-    (accept_accesses m pages 0xFFFA) (accept_accesses m pages 0xFFF8) (instruction_accesses m pages)
-  where
-    go : (bf ir0 halted first second : Bool) (l k n : List Access)
-        → cond bf (cond ir0 [] (cond first l (cond second k (cond halted [] n)))) []
-        ≡ cond (bf && not ir0) (cond first l (cond second k (cond (not halted) n []))) []
-    go true true halted first second l k n = refl
-    go true false true first second l k n = refl
-    go true false false first second l k n = refl
-    go false ir0 halted first second l k n = refl
-
 -- the accesses l that the code takes the coming step's to be are at most seven, so there is room for the count
 pub step_appends : (m : Lh5801) (inputs : Inputs) (pages : Pages) {log : LentLog} {l : List Access} → stops_before_of m inputs ≡ false
-    → log.entry.now.used ≤ most → tested m pages ≡ l → Notes l log → Appends (completed_accesses (exec (step_of m inputs) pages)) log
+    → log.entry.now.used ≤ most → step_accesses m pages ≡ l → Notes l log → Appends (completed_accesses (exec (step_of m inputs) pages)) log
 step_appends m inputs pages s h e p =
-    let same = step_accesses_ahead m inputs pages s ∙ tested_are m pages ∙ e in
+    let same = step_accesses_ahead m inputs pages s ∙ e in
     rw same (grows_appends (omega (arith, h, ap length same, completed_few m inputs pages)) p)
 
 -- the bytes that are left: the next one, and the others

@@ -14,7 +14,7 @@ use arithmetic::record::Lh5801;
 use execution::instructions::Condition;
 use execution::places::Place;
 use execution::shapes::{Action, Shape};
-use execution::{Opcode, places};
+use execution::{Opcode, interrupts, places};
 use pages::View;
 
 mod tables;
@@ -235,15 +235,12 @@ pub fn note_step(cpu: Lh5801, view: View, log: &mut BusLog)
     requires { log.old.used ≤ most }
     ensures { AppendsStep cpu view log }
 {
-    if cpu.bf & !cpu.ir0 {
-        let enabled = arithmetic::get_flag(cpu.t, arithmetic::IE);
-        if (cpu.is_timer_reached | cpu.ir1) & enabled {
-            log.accept(cpu, view, 0xfffa);
-        } else if cpu.ir2 & enabled {
-            log.accept(cpu, view, 0xfff8);
-        } else if !cpu.is_halted {
+    if cpu.bf {
+        match interrupts::accepted(cpu) {
+            Some(interrupt) => log.accept(cpu, view, interrupt.vector()),
             // A halted step waits or stops, with no access.
-            log.instruction(cpu, view);
+            None if cpu.is_halted => {}
+            None => log.instruction(cpu, view),
         }
     }
 }

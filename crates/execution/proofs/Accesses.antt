@@ -1,7 +1,7 @@
 -- A step makes at most seven accesses.
-use Rattle.std.proofs.Common.{ℕ, ◌≤◌, false, eqb, length, arith}
+use Rattle.std.proofs.Common.{ℕ, ◌≤◌, eqb, length, arith}
 use Rattle.arithmetic.specs.declared.record.Lh5801.{Lh5801}
-use Rattle.arithmetic.specs.Record.{with_p, with_ir1, with_ir2}
+use Rattle.arithmetic.specs.Record.{with_p}
 use Rattle.pages.specs.Pages.{Pages}
 use Rattle.pages.specs.Prog.{exec}
 use Rattle.pages.specs.Stack.{readop_of, push_of, push_word_of, pop_of}
@@ -16,6 +16,8 @@ use Rattle.execution.specs.declared.instructions.Listed.{Listed}
 use Rattle.std.specs.Prelude.{Option, Some, None}
 use Rattle.pages.specs.declared.Code.{Code}
 use Rattle.execution.specs.declared.Opcode.{Opcode}
+use Rattle.execution.specs.declared.interrupts.Interrupt.{Interrupt}
+use Rattle.execution.specs.Interrupts.{cleared, vector_address}
 use Rattle.execution.specs.Places.{word_in, locate_of, operand_of}
 use Rattle.execution.specs.Instructions.{alu_of, store_of, sta_of, memory_of, bii_of, drr_of, drl_of, load_of, compare_of, store_at_of, load_at_of, sin_of, sde_of, lin_of, lde_of, holds_of, branch_of, lop_of, vector_of, vector_if_of, jmp_of, sjp_of, rtn_of, rti_of, load_sOf, tin_of, cin_of, pop_to_of, push_from_of, execute_of}
 use Rattle.execution.specs.Step.{decoded_by, fetch_of, decoded_step_of, instruction_of, interrupt_of, powered_of, step_of}
@@ -106,14 +108,12 @@ most_instruction : (m : Lh5801) (inputs : Inputs) → AtMost 7 (instruction_of m
 unfolding instruction_of
 most_instruction m inputs = most_then 2 5 _ _ (most_fetch m.p) (λ o. most_decoded m inputs o (decoded_by o.value))
 
-most_interrupt : (m : Lh5801) (vector : ℕ) → AtMost 7 (interrupt_of m vector)
+most_interrupt : (m : Lh5801) (i : Interrupt) → AtMost 7 (interrupt_of m i)
 unfolding interrupt_of
-most_interrupt m vector = most_then 5 2 _ _ (most_accept m vector) (λ k. tt)
+most_interrupt m i = most_then 5 2 _ _ (most_accept (cleared m i) (vector_address i)) (λ k. tt)
 
-most_powered : (m : Lh5801) (inputs : Inputs) → AtMost 7 (powered_of m inputs)
-most_powered m inputs =
-    powered_ways (AtMost 7) m inputs tt (most_interrupt (with_ir1 m false) 0xFFFA) (most_interrupt (with_ir2 m false) 0xFFF8) tt tt tt
-    (most_instruction m inputs)
+most_powered : (m : Lh5801) (inputs : Inputs) (a : Option Interrupt) → AtMost 7 (powered_of m inputs a)
+most_powered m inputs a = powered_ways (AtMost 7) m inputs a (λ i _. most_interrupt m i) tt tt tt (most_instruction m inputs)
 
 -- a step makes at most seven accesses
 pub step_accesses_lem : (m : Lh5801) (inputs : Inputs) (pages : Pages) → length (exec (step_of m inputs) pages).accesses ≤ 7

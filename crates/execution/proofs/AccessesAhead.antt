@@ -1,8 +1,7 @@
 -- The accesses that specs/Code/Shapes.antt computes ahead of a step are those that the step makes.
-use Rattle.std.proofs.Common.{◌≡◌, ℕ, ◌+◌, ◌/◌, ◌%◌, ◌≤◌, Bool, true, false, cond, ◌&&◌, ◌||◌, eqb, List, [], ◌∷◌, ◌++◌, length, sym, refl, ap, ◌∙◌, append-nil, true≢false, arith}
+use Rattle.std.proofs.Common.{◌≡◌, ℕ, ◌+◌, ◌/◌, ◌%◌, ◌≤◌, Bool, true, false, cond, eqb, List, [], ◌∷◌, ◌++◌, length, sym, refl, ap, ◌∙◌, append-nil, true≢false, arith}
 use Rattle.arithmetic.specs.declared.record.Lh5801.{Lh5801}
-use Rattle.arithmetic.specs.Record.{with_p, with_s, with_t, with_ir1, with_ir2, with_is_timer_reached}
-use Rattle.arithmetic.specs.Flags.{IE, has_flag}
+use Rattle.arithmetic.specs.Record.{with_p, with_s, with_t, with_ir0, with_ir1, with_ir2, with_is_timer_reached}
 use Rattle.pages.specs.declared.Code.{Code}
 use Rattle.pages.specs.Pages.{Pages, at, store, SameLayout}
 use Rattle.pages.specs.Prog.{Prog, done, ◌>>=◌, read, write, Access, read_of, after, exec}
@@ -27,6 +26,9 @@ use Rattle.execution.specs.Places.{locate_of, operand_of}
 use Rattle.execution.specs.Instructions.{operated, alu_of, store_of, sta_of, memory_of, bii_of, drr_of, drl_of, load_of, compare_of, store_at_of, load_at_of, sin_of, sde_of, lin_of, lde_of, holds_of, branch_of, lop_of, vector_of, vector_if_of, jmp_of, sjp_of, rtn_of, rti_of, load_sOf, tin_of, cin_of, pop_to_of, push_from_of, execute_of}
 use Rattle.execution.specs.States.{added_of}
 use Rattle.execution.specs.Step.{StepEnd, did, stopped, instruction, fetched, fetch_of, decoded_by, decoded_step_of, instruction_of, interrupt_of, reached_of, halted_of, due_instruction_of, powered_of, step_of}
+use Rattle.execution.specs.declared.interrupts.Interrupt.{Interrupt}
+use Rattle.execution.specs.declared.interrupts.Interrupt.TheVariants.{Ir0, Ir1, Ir2}
+use Rattle.execution.specs.Interrupts.{accepted, vector_address}
 use Rattle.execution.specs.Inputs.{without_stop}
 use Rattle.execution.specs.Conditions.{AddressStop}
 use Rattle.execution.specs.Code.Due.{stops_before_of}
@@ -161,9 +163,12 @@ instruction_accesses_lem m inputs pages =
     )
     (decoded_accesses m inputs o (decoded_by o.value) pages)
 
-interrupt_accesses : (m : Lh5801) (vector : ℕ) (pages : Pages) → completed_accesses (exec (interrupt_of m vector) pages) ≡ accept_accesses m pages vector
-unfolding interrupt_of accept_of push_state_of push_word_of push_of mem16_of read write ◌>>=◌ exec after with_s with_t
-interrupt_accesses m vector pages = rw (read_after_accept pages m.s m.t m.p vector, read_after_accept pages m.s m.t m.p (vector + 1))
+-- which request is cleared makes no difference to them
+interrupt_accesses : (m : Lh5801) (i : Interrupt) (pages : Pages) → completed_accesses (exec (interrupt_of m i) pages) ≡ accept_accesses m pages (vector_address i)
+unfolding interrupt_of accept_of push_state_of push_word_of push_of mem16_of read write ◌>>=◌ exec after with_s with_t with_ir0 with_ir1 with_ir2
+interrupt_accesses m Ir0 pages = rw (read_after_accept pages m.s m.t m.p 0xFFFC, read_after_accept pages m.s m.t m.p 0xFFFD)
+interrupt_accesses m Ir1 pages = rw (read_after_accept pages m.s m.t m.p 0xFFFA, read_after_accept pages m.s m.t m.p 0xFFFB)
+interrupt_accesses m Ir2 pages = rw (read_after_accept pages m.s m.t m.p 0xFFF8, read_after_accept pages m.s m.t m.p 0xFFF9)
 
 -- a halted step makes none, whether it waits or stops
 halted_accesses : (m : Lh5801) (inputs : Inputs) (pages : Pages) → completed_accesses (exec (done (halted_of m inputs)) pages) ≡ []
@@ -182,23 +187,24 @@ cond_each false p q = q
 
 -- without a stop address
 module _ (inputs : Inputs) (pages : Pages) where
-  powered_accesses_lem : (m : Lh5801) → completed_accesses (exec (powered_of m (without_stop inputs)) pages) ≡ powered_accesses m pages m.ir1
-  unfolding powered_of due_instruction_of exec with_ir1 with_ir2
-  powered_accesses_lem m =
-      completed_cond pages m.ir0 _ _
-      ∙ cond_each m.ir0 refl (completed_cond pages (m.ir1 && has_flag m.t IE) _ _
-      ∙ cond_each (m.ir1 && has_flag m.t IE) (interrupt_accesses (with_ir1 m false) 0xFFFA pages) (completed_cond pages (m.ir2 && has_flag m.t IE) _ _
-      ∙ cond_each (m.ir2 && has_flag m.t IE) (interrupt_accesses (with_ir2 m false) 0xFFF8 pages) (completed_cond pages m.is_halted _ _
-      ∙ cond_each m.is_halted (halted_accesses m (without_stop inputs) pages) (instruction_accesses_lem m (without_stop inputs) pages))))
+  powered_accesses_lem : (m : Lh5801) (a : Option Interrupt)
+      → completed_accesses (exec (powered_of m (without_stop inputs) a) pages) ≡ powered_accesses m pages a
+  unfolding powered_of due_instruction_of exec
+  powered_accesses_lem m (Some i) = interrupt_accesses m i pages
+  powered_accesses_lem m None =
+      completed_cond pages m.is_halted _ _
+      ∙ cond_each m.is_halted (halted_accesses m (without_stop inputs) pages) (instruction_accesses_lem m (without_stop inputs) pages)
 
-  reached_accesses : (m : Lh5801) (r : Bool) → completed_accesses (exec (powered_of (cond r (moved m) m) (without_stop inputs)) pages) ≡ powered_accesses m pages (r || m.ir1)
+  reached_accesses : (m : Lh5801) (r : Bool) (a : Option Interrupt)
+      → completed_accesses (exec (powered_of (cond r (moved m) m) (without_stop inputs) a) pages) ≡ powered_accesses m pages a
   unfolding instruction_accesses locate_of with_ir1 with_is_timer_reached with_p
-  reached_accesses m true = powered_accesses_lem (moved m)
-  reached_accesses m false = powered_accesses_lem m
+  reached_accesses m true (Some i) = powered_accesses_lem (moved m) (Some i)
+  reached_accesses m true None = powered_accesses_lem (moved m) None
+  reached_accesses m false a = powered_accesses_lem m a
 
   unaddressed_accesses : (m : Lh5801) → completed_accesses (exec (step_of m (without_stop inputs)) pages) ≡ step_accesses m pages
   unfolding step_of reached_of exec
-  unaddressed_accesses m = completed_cond pages m.bf _ _ ∙ cond_each m.bf (reached_accesses m m.is_timer_reached) refl
+  unaddressed_accesses m = completed_cond pages m.bf _ _ ∙ cond_each m.bf (reached_accesses m m.is_timer_reached (accepted m)) refl
 
 -- the accesses of a completed step, and none of one that stops, are those computed ahead, whatever the inputs, where the step does not stop before an address
 pub step_accesses_ahead : (m : Lh5801) (inputs : Inputs) (pages : Pages) → stops_before_of m inputs ≡ false

@@ -4,6 +4,7 @@ pub mod Order
 pub mod Choices
 pub mod Effects
 pub mod Ways
+pub mod Accepted
 pub mod DueTest
 pub mod StopAddress
 pub mod DueAgain
@@ -17,6 +18,7 @@ pub mod Tests
 pub mod WithoutStop
 pub mod StopConditions
 pub mod Waiting
+pub mod Entered
 pub mod ReadOrder
 pub mod Stops
 pub mod Widths

@@ -1,11 +1,11 @@
 -- The code's way through a step is the definition's: one test tells whether an instruction is due.
-use Rattle.std.proofs.Common.{◌≡◌, ℕ, ◌+◌, Bool, true, false, cond, not, ◌&&◌, ◌||◌, ◌≢◌, sym, refl, ap, ◌∙◌, subst, true≢false}
+use Rattle.std.proofs.Common.{◌≡◌, ℕ, ◌+◌, Bool, true, false, cond, not, ◌&&◌, sym, refl, ap, ◌∙◌, subst, true≢false}
 use mathlib.Core.Bool.{not-eq-not}
 use Rattle.arithmetic.specs.declared.record.Lh5801.{Lh5801}
 use Rattle.execution.specs.declared.Inputs.{Inputs}
 use Rattle.arithmetic.specs.declared.Looped.{Looped}
 use Rattle.arithmetic.specs.Shifts.{looped_of}
-use Rattle.arithmetic.specs.Record.{with_u, with_p, with_ir1, with_ir2, with_is_timer_reached}
+use Rattle.arithmetic.specs.Record.{with_u, with_p, with_ir1, with_is_timer_reached}
 use Rattle.arithmetic.specs.Flags.{IE, has_flag}
 use Rattle.pages.specs.declared.Memory.{Memory}
 use Rattle.arithmetic.proofs.Status.{Status, requested, requested_back, requested_same}
@@ -16,23 +16,25 @@ use Rattle.pages.specs.Timer.{add_state_of, timer_part_of}
 use Rattle.pages.proofs.Does.{does_then, does_done, does_mapped, does_through}
 use Rattle.execution.specs.declared.instructions.Direction.TheVariants.{Backward}
 use Rattle.execution.specs.declared.instructions.Instruction.{Instruction}
-use Rattle.std.specs.Prelude.{None, Result, Ok, Err}
+use Rattle.std.specs.Prelude.{Some, None, Result, Ok, Err}
 use Rattle.execution.specs.Opcodes.{listed}
 use Rattle.execution.specs.declared.Executed.{Executed}
 use Rattle.execution.specs.declared.Executed.TheVariants.{Again, Completed}
 use Rattle.pages.specs.declared.Code.{Code}
 use Rattle.execution.specs.declared.Opcode.{Opcode}
 use Rattle.execution.specs.declared.Stop.{Stop}
-use Rattle.execution.specs.declared.Stop.TheVariants.{Unlisted, Halted}
+use Rattle.execution.specs.declared.Stop.TheVariants.{Unlisted}
 use Rattle.execution.specs.Instructions.{branched_of, execute_of}
 use Rattle.execution.specs.States.{added_of}
-use Rattle.execution.specs.Step.{off, held, interrupt, waiting, instruction, StepEnd, did, stopped, fetch_of, decoded_by, decoded_step_of, instruction_of, interrupt_of, reached_of, halted_of, powered_of, step_of}
+use Rattle.execution.specs.Step.{off, interrupt, instruction, StepEnd, did, stopped, fetch_of, decoded_by, decoded_step_of, instruction_of, interrupt_of, reached_of, halted_of, due_instruction_of, powered_of, step_of}
 use Rattle.execution.specs.Code.Outcomes.{outcome_of}
 use Rattle.execution.specs.Code.Due.{due_by, due_of, Ready, settled_of, settled_by, executed_of}
 use Rattle.execution.proofs.Effects.{due_in}
-use Rattle.execution.proofs.Choices.{cond_both, cond_true, cond_false}
+use Rattle.execution.proofs.Choices.{cond_both, cond_false}
+use Rattle.execution.specs.declared.interrupts.Interrupt.{Interrupt}
+use Rattle.execution.specs.Interrupts.{accepted, cleared, vector_address}
 use Rattle.execution.specs.Inputs.{stops_at}
-use Rattle.execution.proofs.Tests.{reached_same, none_accepted, halting_step, fetching_step, halted_stops, halted_waits}
+use Rattle.execution.proofs.Tests.{interrupt_step, halting_step, due_step, fetching_step}
 use Rattle.execution.proofs.DueTest.{due_is}
 use Rattle.execution.proofs.StopAddress.{elsewhere_is}
 
@@ -53,59 +55,6 @@ test_moved : (bf ir0 ir1 ir2 e h : Bool) → due_by bf ir0 true false ir2 e h �
 test_moved bf ir0 true ir2 e h = refl
 test_moved bf ir0 false ir2 e h = refl
 
--- an enabled request is accepted, IR1 before IR2
-module _ {A B : Type 0} (f : B → ℕ → A) (a d : A) (x y : B) where
-  some_request : (ir0 ir1 ir2 e : Bool) → ir0 ≡ false → ((ir1 || ir2) && e) ≡ true
-      → cond ir0 a (cond (ir1 && e) (f x 0xFFFA) (cond (ir2 && e) (f y 0xFFF8) d)) ≡ f (cond ir1 x y) (cond ir1 0xFFFA 0xFFF8)
-  some_request true ir1 ir2 e z t = cc
-  some_request false true ir2 true z t = refl
-  some_request false true ir2 false z t = cc
-  some_request false false true true z t = refl
-  some_request false false true false z t = cc
-  some_request false false false e z t = cc
-
--- a step with BF set, by what is tested; timer reached is clear
-module _ (m : Lh5801) (inputs : Inputs) (on : m.bf ≡ true) (clear : m.is_timer_reached ≡ false) where
-  step_powered : step_of m inputs ≡ powered_of m inputs
-  unfolding step_of
-  step_powered = cond_true _ _ _ on ∙ ap (λ (k : Lh5801). powered_of k inputs) (reached_stays m clear)
-
-  pub step_held : {p : Memory} {r : Lh5801} → m.ir0 ≡ true → r ≡ timer_part_of m → Does (mapped outcome_of (step_of m inputs)) p (Ok r) p
-  unfolding powered_of
-  step_held {r = r} a f =
-      rw (step_powered, cond_true _ (done (did (timer_part_of m) 0 held)) _ a)
-      (does_mapped outcome_of {r = did r 0 held} (does_done (ap (λ (x : Lh5801). did x 0 held) f)))
-
-  module _ (e : Bool) (enabled : e ≡ has_flag m.t IE) (free : m.ir0 ≡ false) where
-    pub step_interrupt : {p q : Memory} {l k r : Lh5801} {vector : ℕ} → ((m.ir1 || m.ir2) && e) ≡ true
-        → l ≡ cond m.ir1 (with_ir1 m false) (with_ir2 m false)
-        → vector ≡ cond m.ir1 0xFFFA 0xFFF8
-        → Does (accept_of l vector) p k q
-        → r ≡ timer_part_of k
-        → Does (mapped outcome_of (step_of m inputs)) p (Ok r) q
-    unfolding powered_of interrupt_of
-    step_interrupt {r = r} {vector = vector} b u v d f =
-        rw (step_powered, ← enabled, some_request interrupt_of _ _ _ _ m.ir0 m.ir1 m.ir2 e free b, ← u, ← v)
-        (does_mapped outcome_of {r = did r 0 (interrupt vector)} (does_then _ d (does_done (ap (λ (x : Lh5801). did x 0 (interrupt vector)) f))))
-
-    -- no request is accepted and no instruction is due, so it is halted
-    module _ (b : ((m.ir1 || m.ir2) && e) ≡ false) (n : due_of m ≡ false) where
-      step_halting : step_of m inputs ≡ done (halted_of m inputs)
-      step_halting =
-          let none = none_accepted m on free clear (rw enabled at b) in
-          let halted : m.is_halted ≡ true = not-eq-not.0 (λ g. true≢false (sym ((due_is m).1 (record { on = on; free = free; none = none; running = g })) ∙ n)) in
-          halting_step m inputs (record { on = on; halted = halted; free = free; none = none })
-          ∙ ap (λ (k : Lh5801). done (halted_of k inputs)) (reached_stays m clear)
-
-      pub step_halted : {p : Memory} → inputs.idle ≡ 0 → Does (mapped outcome_of (step_of m inputs)) p (Err Halted) p
-      step_halted z = rw (step_halting, halted_stops m inputs z) (does_mapped outcome_of {r = stopped Halted} (does_done refl))
-
-      pub step_waiting : {p : Memory} {r : Lh5801} → inputs.idle ≢ 0 → r ≡ timer_part_of (add_state_of m inputs.idle)
-          → Does (mapped outcome_of (step_of m inputs)) p (Ok r) p
-      step_waiting {r = r} z f =
-          rw (step_halting, halted_waits m inputs z)
-          (does_mapped outcome_of {r = did r inputs.idle waiting} (does_done (ap (λ (x : Lh5801). did x inputs.idle waiting) f)))
-
 -- where an instruction is due and P is not the stop address, the step is that instruction's
 step_due : (m : Lh5801) (inputs : Inputs) → Ready m → stops_at inputs m.p ≡ false → step_of m inputs ≡ instruction_of m inputs
 step_due m inputs h e =
@@ -114,7 +63,7 @@ step_due m inputs h e =
 
 -- timer reached moved to IR1: the same step, and an instruction is due or not as before
 module _ (m : Lh5801) where
-  pub reached_clear : (reached_of m).is_timer_reached ≡ false
+  reached_clear : (reached_of m).is_timer_reached ≡ false
   unfolding reached_of
   reached_clear = go m.is_timer_reached refl
     where
@@ -122,10 +71,7 @@ module _ (m : Lh5801) where
       go true e = ap (λ (s : Status). s.reached) (requested m true false).is
       go false e = e
 
-  pub reached_bf : (reached_of m).bf ≡ m.bf
-  reached_bf = reached_same m (λ k. k.bf) (ap (λ (s : Status). s.bf) (requested m true false).is)
-
-  pub reached_due : due_of (reached_of m) ≡ due_of m
+  reached_due : due_of (reached_of m) ≡ due_of m
   unfolding reached_of
   reached_due = go m.is_timer_reached refl
     where
@@ -146,10 +92,11 @@ module _ (m : Lh5801) where
       cond_both (λ (k : Lh5801). with_is_timer_reached (with_ir1 k m.ir1) m.is_timer_reached ≡ m) m.is_timer_reached _ m
       (requested_back m true false) (requested_same m)
 
-  pub step_reached : (inputs : Inputs) → m.bf ≡ true → step_of (reached_of m) inputs ≡ step_of m inputs
-  unfolding step_of
-  step_reached inputs on =
-      step_powered (reached_of m) inputs (reached_bf ∙ on) reached_clear ∙ sym (cond_true _ _ _ on)
+  pub step_reached : (inputs : Inputs) → due_of m ≡ true → step_of (reached_of m) inputs ≡ step_of m inputs
+  step_reached inputs h =
+      due_step (reached_of m) inputs ((due_is (reached_of m)).0 (reached_due ∙ h))
+      ∙ ap (λ (k : Lh5801). due_instruction_of k inputs) (reached_stays (reached_of m) reached_clear)
+      ∙ sym (due_step m inputs ((due_is m).0 h))
 
 -- where an instruction is due and P is not the stop address, by what its byte decodes to
 module _ (m : Lh5801) (inputs : Inputs) (ready : Ready m) (elsewhere : stops_at inputs m.p ≡ false) where
@@ -196,9 +143,28 @@ pub executed_step : (m : Lh5801) (inputs : Inputs) {p q : Memory} {r : Result Ex
     → Does (mapped outcome_of (step_of m inputs)) p (outcome_in r) q
 executed_step m inputs d = does_through executed_of outcome_of outcome_in executed_outcome (step_of m inputs) d
 
--- a step with BF clear
-pub step_off : (m : Lh5801) (inputs : Inputs) {p : Memory} {r : Lh5801} → m.bf ≡ false → r ≡ add_state_of m 8 → Does (mapped outcome_of (step_of m inputs)) p (Ok r) p
-unfolding step_of
-step_off m inputs {r = r} e f =
-    rw (cond_false _ (powered_of (reached_of m) inputs) (done (did (add_state_of m 8) 8 off)) e)
-    (does_mapped outcome_of {r = did r 8 off} (does_done (ap (λ (x : Lh5801). did x 8 off) f)))
+-- a step in which no instruction is due, by what the code tests
+module _ (m : Lh5801) (inputs : Inputs) {p : Memory} where
+  pub step_off : {r : Lh5801} → m.bf ≡ false → r ≡ add_state_of m 8 → Does (mapped outcome_of (step_of m inputs)) p (Ok r) p
+  unfolding step_of
+  step_off {r = r} e f =
+      rw (cond_false _ (powered_of (reached_of m) inputs (accepted m)) (done (did (add_state_of m 8) 8 off)) e)
+      (does_mapped outcome_of {r = did r 8 off} (does_done (ap (λ (x : Lh5801). did x 8 off) f)))
+
+  module _ (on : m.bf ≡ true) {k : Lh5801} (moved : k ≡ reached_of m) where
+    pub step_interrupt : {q : Memory} {i : Interrupt} {l r : Lh5801} → accepted m ≡ Some i
+        → Does (accept_of (cleared k i) (vector_address i)) p l q
+        → r ≡ timer_part_of l
+        → Does (mapped outcome_of (step_of m inputs)) p (Ok r) q
+    unfolding interrupt_of
+    step_interrupt {i = i} {r = r} a d f =
+        rw (interrupt_step m inputs on i a, ← moved)
+        (does_mapped outcome_of {r = did r 0 (interrupt i)} (does_then _ d (does_done (ap (λ (x : Lh5801). did x 0 (interrupt i)) f))))
+
+    -- no interrupt is accepted and no instruction is due, so it is halted
+    pub step_halted : {r : Result Lh5801 Stop} → accepted m ≡ None → due_of m ≡ false → r ≡ outcome_of (halted_of k inputs)
+        → Does (mapped outcome_of (step_of m inputs)) p r p
+    step_halted a n f =
+        let halted : m.is_halted ≡ true = not-eq-not.0 (λ g. true≢false (sym ((due_is m).1 (record { on = on; none = a; running = g })) ∙ n)) in
+        rw (halting_step m inputs (record { on = on; halted = halted; none = a }), ← moved, f)
+        (does_mapped outcome_of {r = halted_of k inputs} (does_done refl))

@@ -2,8 +2,8 @@
 use Rattle.std.proofs.Common.{◌≡◌, ℕ, ◌+◌, ◌%◌, ◌^◌, ◌<◌, Bool, true, false, not, eqb, refl, ap, ◌∙◌, add-zero, arith}
 use Rattle.arithmetic.specs.declared.record.Lh5801.{Lh5801}
 use Rattle.execution.specs.declared.Inputs.{Inputs}
-use Rattle.arithmetic.specs.Record.{with_p, with_ir1, with_ir2}
-use Rattle.arithmetic.proofs.Status.{Status, SameTimes, p_keeps, keeps_p, times_ir1, times_ir2, times_reached, times_status, times_then}
+use Rattle.arithmetic.specs.Record.{with_p, with_ir1}
+use Rattle.arithmetic.proofs.Status.{Status, SameTimes, p_keeps, keeps_p, times_ir0, times_ir1, times_ir2, times_reached, times_status, times_then}
 use Rattle.pages.specs.Pages.{Pages}
 use Rattle.pages.specs.Stack.{accept_of}
 use Rattle.pages.specs.Prog.{exec}
@@ -16,6 +16,9 @@ use Rattle.execution.specs.declared.instructions.Listed.{Listed}
 use Rattle.std.specs.Prelude.{Option, Some, None}
 use Rattle.pages.specs.declared.Code.{Code}
 use Rattle.execution.specs.declared.Opcode.{Opcode}
+use Rattle.execution.specs.declared.interrupts.Interrupt.{Interrupt}
+use Rattle.execution.specs.declared.interrupts.Interrupt.TheVariants.{Ir0, Ir1, Ir2}
+use Rattle.execution.specs.Interrupts.{cleared, vector_address}
 use Rattle.execution.specs.Instructions.{holds_of, execute_of}
 use Rattle.execution.specs.States.{Adds, nothing, branch, loop, vector_if, vector, adds_of, taken_from, added_of}
 use Rattle.execution.specs.Step.{Kind, StepEnd, did, decoded_by, fetch_of, decoded_step_of, instruction_of, interrupt_of, powered_of, step_of}
@@ -32,6 +35,12 @@ taken_any_p m p vector = refl
 -- what an instruction adds does not depend on P
 added_any_p : (m : Lh5801) (p : ℕ) (i : Instruction) → added_of (with_p m p) i ≡ added_of m i
 added_any_p m p i = rw (taken_any_p m p (adds_of i))
+
+-- an interrupt's request cleared leaves the counters
+times_cleared : (m : Lh5801) (i : Interrupt) → SameTimes m (cleared m i)
+times_cleared m Ir0 = times_ir0 m false
+times_cleared m Ir1 = times_ir1 m false
+times_cleared m Ir2 = times_ir2 m false
 
 -- the counters after e states
 abbrev Counted : Lh5801 → ℕ → Lh5801 → Type 0
@@ -59,9 +68,11 @@ module _ (m : Lh5801) (inputs : Inputs) where
   counted_effect k r e b s f = (λ l. f.small (rw s.tm l), f.ticks ∙ ap (λ (n : ℕ). (n + e) % 2 ^ 64) s.ticks)
 
   -- from a record with m's counters
-  counted_interrupt : (k : Lh5801) → SameTimes m k → (at : ℕ) → Always (CountedEnd m) (interrupt_of k at)
+  counted_interrupt : (k : Lh5801) → SameTimes m k → (i : Interrupt) → Always (CountedEnd m) (interrupt_of k i)
   unfolding interrupt_of
-  counted_interrupt k s at = always_bind _ _ (accept_of k at) _ (accept_times k at) (λ r t. counted_timer r 0 (counted_same r (times_then s t)))
+  counted_interrupt k s i =
+      always_bind _ _ (accept_of (cleared k i) (vector_address i)) _ (accept_times (cleared k i) (vector_address i))
+      (λ r t. counted_timer r 0 (counted_same r (times_then (times_then s (times_cleared k i)) t)))
 
   counted_decoded : (k : Lh5801) → SameTimes m k → (o : Code Opcode) (d : Option Listed) → Always (CountedEnd m) (decoded_step_of k inputs o d)
   unfolding decoded_step_of
@@ -75,12 +86,9 @@ module _ (m : Lh5801) (inputs : Inputs) where
   unfolding instruction_of
   counted_instruction k s = always_then _ (fetch_of k.p) _ (λ o. counted_decoded k s o (decoded_by o.value))
 
-  counted_powered : (k : Lh5801) → SameTimes m k → Always (CountedEnd m) (powered_of k inputs)
-  counted_powered k s =
-      powered_ways (Always (CountedEnd m)) k inputs (counted_timer k 0 (counted_same k s))
-      (counted_interrupt (with_ir1 k false) (times_then s (times_ir1 k false)) 0xFFFA)
-      (counted_interrupt (with_ir2 k false) (times_then s (times_ir2 k false)) 0xFFF8)
-      tt
+  counted_powered : (k : Lh5801) → SameTimes m k → (a : Option Interrupt) → Always (CountedEnd m) (powered_of k inputs a)
+  counted_powered k s a =
+      powered_ways (Always (CountedEnd m)) k inputs a (λ i _. counted_interrupt k s i) tt
       (counted_timer _ inputs.idle (rw add-zero at (counted_states k inputs.idle 0 (counted_same k s))))
       tt
       (counted_instruction k s)

@@ -1,8 +1,8 @@
 -- The states of a completed step.
-use Rattle.std.proofs.Common.{◌≡◌, ℕ, ◌+◌, ◌≤◌, false, refl, arith}
+use Rattle.std.proofs.Common.{◌≡◌, ℕ, ◌+◌, ◌≤◌, refl, arith}
 use Rattle.arithmetic.specs.declared.record.Lh5801.{Lh5801}
 use Rattle.execution.specs.declared.Inputs.{Inputs}
-use Rattle.arithmetic.specs.Record.{with_p, with_ir1, with_ir2}
+use Rattle.arithmetic.specs.Record.{with_p}
 use Rattle.pages.specs.Pages.{Pages}
 use Rattle.pages.specs.Stack.{accept_of}
 use Rattle.pages.specs.Prog.{exec}
@@ -14,9 +14,11 @@ use Rattle.execution.specs.Opcodes.{listed}
 use Rattle.pages.specs.declared.Code.{Code}
 use Rattle.execution.specs.declared.Opcode.{Opcode}
 use Rattle.execution.specs.declared.Opcode.TheVariants.{First, AfterFd}
+use Rattle.execution.specs.declared.interrupts.Interrupt.{Interrupt}
 use Rattle.execution.specs.Instructions.{execute_of}
+use Rattle.execution.specs.Interrupts.{cleared, vector_address}
 use Rattle.execution.specs.States.{adds_of, added_when_taken, taken_from, added_of}
-use Rattle.execution.specs.Step.{Kind, off, held, interrupt, waiting, instruction, fewest_states, most_states, StepEnd, did, decoded_by, fetch_of, decoded_step_of, instruction_of, interrupt_of, powered_of, step_of}
+use Rattle.execution.specs.Step.{Kind, off, interrupt, waiting, instruction, fewest_states, most_states, StepEnd, did, decoded_by, fetch_of, decoded_step_of, instruction_of, interrupt_of, powered_of, step_of}
 use Rattle.execution.proofs.Choices.{cond_both}
 use Rattle.execution.proofs.Ways.{Did, did_exec, moved, powered_ways, step_ways}
 use Rattle.execution.proofs.Listed.{listed_states, listed_states_fd}
@@ -31,14 +33,13 @@ added_most m i = cond_both (λ n. n ≤ added_when_taken i) (taken_from m (adds_
 
 most_255 : (inputs : Inputs) → inputs.idle ≤ 255 → (kind : Kind) → most_states inputs kind ≤ 255
 most_255 inputs h off = omega arith
-most_255 inputs h held = omega arith
-most_255 inputs h (interrupt vector) = omega arith
+most_255 inputs h (interrupt i) = omega arith
 most_255 inputs h waiting = h
 most_255 inputs h (instruction opcode) = omega arith
 
-fits_interrupt : (inputs : Inputs) (m : Lh5801) (vector : ℕ) → Always (Fits inputs) (interrupt_of m vector)
+fits_interrupt : (inputs : Inputs) (m : Lh5801) (i : Interrupt) → Always (Fits inputs) (interrupt_of m i)
 unfolding interrupt_of
-fits_interrupt inputs m vector = always_then (Fits inputs) (accept_of m vector) _ (λ k. (omega arith, omega arith))
+fits_interrupt inputs m i = always_then (Fits inputs) (accept_of (cleared m i) (vector_address i)) _ (λ k. (omega arith, omega arith))
 
 -- each entry of the opcode table has 4 states at least, and 23 at most with what it adds where it is taken
 listed_by : (opcode : Opcode) (i : Instruction) (n : ℕ) → decoded_by opcode ≡ listed i n → (4 ≤ n) × (n + added_when_taken i ≤ 23)
@@ -55,20 +56,15 @@ fits_instruction : (m : Lh5801) (inputs : Inputs) → Always (Fits inputs) (inst
 unfolding instruction_of
 fits_instruction m inputs = always_then (Fits inputs) (fetch_of m.p) _ (λ o. fits_decoded m inputs o (decoded_by o.value) refl)
 
-fits_powered : (m : Lh5801) (inputs : Inputs) → Always (Fits inputs) (powered_of m inputs)
-fits_powered m inputs =
-    powered_ways (Always (Fits inputs)) m inputs (omega arith, omega arith) (fits_interrupt inputs (with_ir1 m false) 0xFFFA)
-    (fits_interrupt inputs (with_ir2 m false) 0xFFF8)
-    tt
-    (omega arith, omega arith)
-    tt
-    (fits_instruction m inputs)
+fits_powered : (m : Lh5801) (inputs : Inputs) (a : Option Interrupt) → Always (Fits inputs) (powered_of m inputs a)
+fits_powered m inputs a =
+    powered_ways (Always (Fits inputs)) m inputs a (λ i _. fits_interrupt inputs m i) tt (omega arith, omega arith) tt (fits_instruction m inputs)
 
 fits_step : (m : Lh5801) (inputs : Inputs) → Always (Fits inputs) (step_of m inputs)
 fits_step m inputs = step_ways (Always (Fits inputs)) m inputs (omega arith, omega arith) (fits_powered (moved m) inputs) (fits_powered m inputs)
 
--- a completed step has the states of its kind: 8 with BF clear, 0 where IR0 holds it or an interrupt is accepted, the idle figure where it waits, 4 to
--- 23 for an instruction
+-- a completed step has the states of its kind: 8 with BF clear, 0 where an interrupt is accepted, the idle figure where it waits, 4 to 23 for an
+-- instruction
 pub step_kind_states : (m : Lh5801) (inputs : Inputs) (pages : Pages) (k : Lh5801) (s : ℕ) (kind : Kind)
     → (exec (step_of m inputs) pages).answer ≡ did k s kind
     → (fewest_states inputs kind ≤ s) × (s ≤ most_states inputs kind)

@@ -19,17 +19,19 @@ use Rattle.execution.specs.declared.Opcode.{Opcode}
 use Rattle.execution.specs.declared.Opcode.TheVariants.{First, AfterFd}
 use Rattle.execution.specs.declared.Stop.{Stop}
 use Rattle.execution.specs.declared.Stop.TheVariants.{Unlisted, Halted, AtAddress}
+use Rattle.execution.specs.declared.interrupts.Interrupt.{Interrupt}
+use Rattle.execution.specs.Interrupts.{accepted}
 use Rattle.execution.specs.Inputs.{stops_at}
 use Rattle.execution.specs.Opcodes.{decoded}
 use Rattle.execution.specs.OpcodesFd.{decoded_fd}
 use Rattle.execution.specs.Listed.{is_listed, listed_first}
 use Rattle.execution.specs.Step.{waiting, StepEnd, did, stopped, fetched, decoded_by, decoded_step_of, reached_of, halted_of, step_of}
-use Rattle.execution.specs.Conditions.{accepted, Halting, HaltedStop, Waits, Due, AddressStop, Fetches, first_byte, second_byte, FirstUnlisted, SecondUnlisted, Completes, NoStop}
+use Rattle.execution.specs.Conditions.{Halting, HaltedStop, Waits, Due, AddressStop, Fetches, first_byte, second_byte, FirstUnlisted, SecondUnlisted, Completes, NoStop}
 use Rattle.execution.specs.Code.Shapes.{opcode_at}
 use Rattle.execution.proofs.OpcodeRead.{instruction_answer}
 use Rattle.execution.proofs.StopsClean.{IsDid, IsActive, active_did, active_listed}
 use Rattle.execution.proofs.Choices.{none_left, none_right, cond_true, cond_false}
-use Rattle.execution.proofs.Tests.{reached_p, off_step, held_step, halting_step, address_step, fetching_step, accepted_step, halted_stops, halted_waits}
+use Rattle.execution.proofs.Tests.{reached_p, off_step, halting_step, address_step, fetching_step, accepted_step, halted_stops, halted_waits}
 use Rattle.execution.proofs.StopAddress.{stops_at_is, elsewhere_is}
 
 -- what a decoded opcode comes to
@@ -151,14 +153,13 @@ module _ (m : Lh5801) (inputs : Inputs) (pages : Pages) where
 
   case_of : Case
   unfolding answer
-  case_of = go m.bf refl m.ir0 refl (accepted m) refl m.is_halted refl
+  case_of = go m.bf refl (accepted m) refl m.is_halted refl
     where
-      go : (b : Bool) → m.bf ≡ b → (z : Bool) → m.ir0 ≡ z → (n : Bool) → accepted m ≡ n → (h : Bool) → m.is_halted ≡ h → Case
-      go false b z e n f h g = is_completed (always_exec IsActive (step_of m inputs) (off_step m inputs b) pages)
-      go true b true e n f h g = is_completed (always_exec IsActive (step_of m inputs) (held_step m inputs b e) pages)
-      go true b false e true f h g = is_completed (always_exec IsActive (step_of m inputs) (accepted_step m inputs b e f) pages)
-      go true b false e false f true g = case_halting (record { on = b; halted = g; free = e; none = f })
-      go true b false e false f false g = case_due (record { on = b; free = e; none = f; running = g })
+      go : (b : Bool) → m.bf ≡ b → (a : Option Interrupt) → accepted m ≡ a → (h : Bool) → m.is_halted ≡ h → Case
+      go false b a e h g = is_completed (always_exec IsActive (step_of m inputs) (off_step m inputs b) pages)
+      go true b (Some i) e h g = is_completed (always_exec IsActive (step_of m inputs) (accepted_step m inputs b i e) pages)
+      go true b None e true g = case_halting (record { on = b; halted = g; none = e })
+      go true b None e false g = case_due (record { on = b; none = e; running = g })
 
   -- a completed step is no stop
   never_both : (s : Stop) → IsDid answer → answer ≡ stopped s → ⊥

@@ -1,8 +1,8 @@
 -- A step that stops has written nothing.
-use Rattle.std.proofs.Common.{◌≡◌, ℕ, false, eqb, [], subst}
+use Rattle.std.proofs.Common.{◌≡◌, ℕ, eqb, [], subst}
 use Rattle.arithmetic.specs.declared.record.Lh5801.{Lh5801}
 use Rattle.execution.specs.declared.Inputs.{Inputs}
-use Rattle.arithmetic.specs.Record.{with_p, with_ir1, with_ir2}
+use Rattle.arithmetic.specs.Record.{with_p}
 use Rattle.pages.specs.Pages.{Pages}
 use Rattle.pages.specs.Prog.{Prog, exec}
 use Rattle.pages.specs.Stack.{accept_of}
@@ -16,8 +16,10 @@ use Rattle.execution.specs.Opcodes.{listed}
 use Rattle.pages.specs.declared.Code.{Code}
 use Rattle.execution.specs.declared.Opcode.{Opcode}
 use Rattle.execution.specs.declared.Stop.{Stop}
+use Rattle.execution.specs.declared.interrupts.Interrupt.{Interrupt}
+use Rattle.execution.specs.Interrupts.{cleared, vector_address}
 use Rattle.execution.specs.Instructions.{execute_of}
-use Rattle.execution.specs.Step.{Kind, off, held, interrupt, waiting, instruction, StepEnd, did, stopped, decoded_by, fetch_of, decoded_step_of, instruction_of, interrupt_of, powered_of, step_of}
+use Rattle.execution.specs.Step.{Kind, off, interrupt, waiting, instruction, StepEnd, did, stopped, decoded_by, fetch_of, decoded_step_of, instruction_of, interrupt_of, powered_of, step_of}
 use Rattle.execution.proofs.Choices.{cond_both}
 use Rattle.execution.proofs.Ways.{moved, powered_ways, step_ways}
 
@@ -29,8 +31,7 @@ IsDid (stopped s) = ⊥
 -- the step was completed, and did not wait
 abbrev NotWaiting : Kind → Type 0
 NotWaiting off = Unit {0}
-NotWaiting held = Unit {0}
-NotWaiting (interrupt vector) = Unit {0}
+NotWaiting (interrupt i) = Unit {0}
 NotWaiting waiting = ⊥
 NotWaiting (instruction opcode) = Unit {0}
 
@@ -51,9 +52,9 @@ pub active_listed : (m : Lh5801) (inputs : Inputs) (o : Code Opcode) (i : Instru
 unfolding decoded_step_of
 active_listed m inputs o i n = always_then IsActive (execute_of (with_p m o.p) inputs i) _ (λ k. tt)
 
-pub active_interrupt : (m : Lh5801) (vector : ℕ) → Always IsActive (interrupt_of m vector)
+pub active_interrupt : (m : Lh5801) (i : Interrupt) → Always IsActive (interrupt_of m i)
 unfolding interrupt_of
-active_interrupt m vector = always_then IsActive (accept_of m vector) _ (λ k. tt)
+active_interrupt m i = always_then IsActive (accept_of (cleared m i) (vector_address i)) _ (λ k. tt)
 
 clean_active : (p : Prog StepEnd) → Always IsActive p → Clean IsDid p
 clean_active p h = clean_always IsDid p (always_map IsActive IsDid p active_did h)
@@ -67,14 +68,9 @@ clean_instruction : (m : Lh5801) (inputs : Inputs) → Clean IsDid (instruction_
 unfolding instruction_of
 clean_instruction m inputs = clean_after IsDid (fetch_of m.p) _ (reads_fetch m.p) (λ o. clean_decoded m inputs o (decoded_by o.value))
 
-clean_powered : (m : Lh5801) (inputs : Inputs) → Clean IsDid (powered_of m inputs)
-clean_powered m inputs =
-    powered_ways (Clean IsDid) m inputs tt (clean_active (interrupt_of (with_ir1 m false) 0xFFFA) (active_interrupt _ _))
-    (clean_active (interrupt_of (with_ir2 m false) 0xFFF8) (active_interrupt _ _))
-    tt
-    tt
-    tt
-    (clean_instruction m inputs)
+clean_powered : (m : Lh5801) (inputs : Inputs) (a : Option Interrupt) → Clean IsDid (powered_of m inputs a)
+clean_powered m inputs a =
+    powered_ways (Clean IsDid) m inputs a (λ i _. clean_active (interrupt_of m i) (active_interrupt m i)) tt tt tt (clean_instruction m inputs)
 
 -- a step that stops has made no write, and the pages are as before it
 pub stop_no_write : (m : Lh5801) (inputs : Inputs) (pages : Pages) (s : Stop) → (exec (step_of m inputs) pages).answer ≡ stopped s

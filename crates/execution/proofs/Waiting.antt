@@ -18,10 +18,10 @@ use Rattle.execution.proofs.StopConditions.{waiting_only}
 
 module _ (m : Lh5801) where
   -- the record after "Timer reached moves to IR1"
-  abbrev asked : Bool → Bool → Lh5801
+  abbrev pub asked : Bool → Bool → Lh5801
   asked ir1 reached = record m { ir1 = ir1; is_timer_reached = reached }
 
-  reached_fields : reached_of m ≡ asked (m.ir1 || m.is_timer_reached) false
+  pub reached_fields : reached_of m ≡ asked (m.ir1 || m.is_timer_reached) false
   unfolding reached_of with_ir1 with_is_timer_reached
   reached_fields = go m.is_timer_reached refl
     where

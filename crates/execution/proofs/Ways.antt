@@ -1,15 +1,17 @@
 -- The ways that a step can go: what holds of each holds of the step.
-use Rattle.std.proofs.Common.{◌≡◌, ℕ, true, false, ◌&&◌, eqb}
+use Rattle.std.proofs.Common.{◌≡◌, ℕ, true, false, eqb, refl}
 use Rattle.arithmetic.specs.declared.record.Lh5801.{Lh5801}
 use Rattle.execution.specs.declared.Inputs.{Inputs}
-use Rattle.arithmetic.specs.Record.{with_ir1, with_ir2, with_is_timer_reached}
-use Rattle.arithmetic.specs.Flags.{IE, has_flag}
+use Rattle.arithmetic.specs.Record.{with_ir1, with_is_timer_reached}
 use Rattle.pages.specs.Pages.{Pages}
 use Rattle.pages.specs.Prog.{Prog, done, exec}
 use Rattle.pages.specs.Timer.{add_state_of, timer_part_of}
 use Rattle.pages.proofs.Always.{Always, always_exec}
 use Rattle.execution.specs.declared.Stop.TheVariants.{Halted, AtAddress}
-use Rattle.execution.specs.Step.{Kind, off, held, waiting, StepEnd, did, stopped, instruction_of, interrupt_of, reached_of, halted_of, due_instruction_of, powered_of, step_of}
+use Rattle.std.specs.Prelude.{Option, Some, None}
+use Rattle.execution.specs.declared.interrupts.Interrupt.{Interrupt}
+use Rattle.execution.specs.Interrupts.{accepted}
+use Rattle.execution.specs.Step.{Kind, off, waiting, StepEnd, did, stopped, instruction_of, interrupt_of, reached_of, halted_of, due_instruction_of, powered_of, step_of}
 use Rattle.execution.specs.Inputs.{stops_at}
 use Rattle.execution.proofs.Choices.{cond_both}
 
@@ -28,25 +30,24 @@ abbrev pub moved : Lh5801 → Lh5801
 moved m = with_is_timer_reached (with_ir1 m true) false
 
 module _ (R : Prog StepEnd → Type 0) (m : Lh5801) (inputs : Inputs) where
-  pub powered_ways : R (done (did (timer_part_of m) 0 held))
-      → R (interrupt_of (with_ir1 m false) 0xFFFA)
-      → R (interrupt_of (with_ir2 m false) 0xFFF8)
+  pub powered_ways : (a : Option Interrupt) → ((i : Interrupt) → a ≡ Some i → R (interrupt_of m i))
       → R (done (stopped Halted))
       → R (done (did (timer_part_of (add_state_of m inputs.idle)) inputs.idle waiting))
       → R (done (stopped AtAddress))
       → R (instruction_of m inputs)
-      → R (powered_of m inputs)
+      → R (powered_of m inputs a)
   unfolding powered_of halted_of due_instruction_of
-  powered_ways f one two h w s i =
-      cond_both R m.ir0 (done (did (timer_part_of m) 0 held)) _ f
-      (cond_both R (m.ir1 && has_flag m.t IE) (interrupt_of (with_ir1 m false) 0xFFFA) _ one
-      (cond_both R (m.ir2 && has_flag m.t IE) (interrupt_of (with_ir2 m false) 0xFFF8) _ two
-      (cond_both R m.is_halted (done (halted_of m inputs)) (due_instruction_of m inputs)
+  powered_ways (Some i) f h w s n = f i refl
+  powered_ways None f h w s n =
+      cond_both R m.is_halted (done (halted_of m inputs)) (due_instruction_of m inputs)
       (cond_both (λ e. R (done e)) (eqb inputs.idle 0) (stopped Halted) _ h w)
-      (cond_both R (stops_at inputs m.p) (done (stopped AtAddress)) (instruction_of m inputs) s i))))
+      (cond_both R (stops_at inputs m.p) (done (stopped AtAddress)) (instruction_of m inputs) s n)
 
-  pub step_ways : R (done (did (add_state_of m 8) 8 off)) → R (powered_of (moved m) inputs) → R (powered_of m inputs) → R (step_of m inputs)
+  pub step_ways : R (done (did (add_state_of m 8) 8 off))
+      → ((a : Option Interrupt) → R (powered_of (moved m) inputs a))
+      → ((a : Option Interrupt) → R (powered_of m inputs a))
+      → R (step_of m inputs)
   unfolding step_of reached_of
   step_ways o h k =
-      cond_both R m.bf (powered_of (reached_of m) inputs) _
-      (cond_both (λ r. R (powered_of r inputs)) m.is_timer_reached (moved m) m h k) o
+      cond_both R m.bf (powered_of (reached_of m) inputs (accepted m)) _
+      (cond_both (λ r. R (powered_of r inputs (accepted m))) m.is_timer_reached (moved m) m (h (accepted m)) (k (accepted m))) o

@@ -4,11 +4,11 @@ use lib.Bits.{bit_and, bit_or, and_le_l, or_lt}
 use Rattle.std.specs.Prelude.{Option, Some, None}
 use Rattle.arithmetic.specs.declared.record.Lh5801.{Lh5801}
 use Rattle.arithmetic.specs.Flags.{CF, IE, ZF}
-use Rattle.arithmetic.specs.Record.{with_t, with_x, with_u, with_s, with_p, with_ir1, with_ir2}
+use Rattle.arithmetic.specs.Record.{with_t, with_x, with_u, with_s, with_p, with_ir1}
 use Rattle.arithmetic.specs.Shifts.{looped_of}
 use Rattle.arithmetic.specs.Sums.{carry_of}
 use Rattle.arithmetic.specs.Widths.{Widths}
-use Rattle.arithmetic.proofs.Widths.{flag_byte, SumBytes, add_bytes, aex_byte, drl_byte, drr_byte, looped_word, adr_word, widths_a, widths_t, widths_x, widths_y, widths_u, widths_s, widths_p, widths_halted, widths_pu, widths_pv, widths_bf, widths_disp, widths_tm, widths_ir1, widths_ir2, widths_reached, widths_previous, widths_flag, widths_sum, widths_lda, widths_adc, widths_sbc, widths_cpa, widths_dca, widths_dcs, widths_and, widths_ora, widths_eor, widths_bit, widths_left, widths_right, widths_tta}
+use Rattle.arithmetic.proofs.Widths.{flag_byte, SumBytes, add_bytes, aex_byte, drl_byte, drr_byte, looped_word, adr_word, widths_a, widths_t, widths_x, widths_y, widths_u, widths_s, widths_p, widths_halted, widths_pu, widths_pv, widths_bf, widths_disp, widths_tm, widths_ir0, widths_ir1, widths_ir2, widths_reached, widths_previous, widths_flag, widths_sum, widths_lda, widths_adc, widths_sbc, widths_cpa, widths_dca, widths_dcs, widths_and, widths_ora, widths_eor, widths_bit, widths_left, widths_right, widths_tta}
 use Rattle.pages.specs.Pages.{Pages}
 use Rattle.pages.specs.Prog.{exec}
 use Rattle.pages.specs.Timer.{add_state_of}
@@ -42,6 +42,9 @@ use Rattle.execution.specs.declared.instructions.Instruction.TheVariants.{Alu, S
 use Rattle.execution.specs.declared.instructions.Listed.{Listed}
 use Rattle.execution.specs.Places.{word_in, with_word, half_in, with_half, address_of, locate_of, operand_of}
 use Rattle.execution.specs.Instructions.{operated, changed_of, alu_of, store_of, sta_of, memory_of, bii_of, drr_of, drl_of, load_of, compare_of, inc_half_of, dec_half_of, inc_word_of, dec_word_of, store_at_of, load_at_of, sin_of, sde_of, lin_of, lde_of, holds_of, branched_of, branch_of, lop_of, vector_of, vector_if_of, jmp_of, sjp_of, rtn_of, rti_of, load_sOf, tin_of, cin_of, on_aOf, signal_of, pop_to_of, push_from_of, to_xOf, from_xOf, adr_in_of, cdv_of, drop_word_of, execute_of}
+use Rattle.execution.specs.declared.interrupts.Interrupt.{Interrupt}
+use Rattle.execution.specs.declared.interrupts.Interrupt.TheVariants.{Ir0, Ir1, Ir2}
+use Rattle.execution.specs.Interrupts.{cleared, vector_address}
 use Rattle.execution.specs.Step.{StepEnd, decoded_by, fetch_of, decoded_step_of, instruction_of, interrupt_of, powered_of, step_of}
 use Rattle.execution.proofs.Choices.{cond_both}
 use Rattle.execution.proofs.Listed.{vector_fits, listed_vectors}
@@ -298,17 +301,24 @@ module _ (inputs : Inputs) (byte : inputs.keyboard < 0x100) where
   unfolding instruction_of
   width_instruction m w = width_bind _ _ _ _ (width_fetch m.p w.p) (λ o h. width_decoded m w o h (decoded_by o.value) refl)
 
-  width_interrupt : (m : Lh5801) → Widths m → (vector : ℕ) → vector + 1 < 0x20000 → InWidth EndWidths (interrupt_of m vector)
-  unfolding interrupt_of
-  width_interrupt m w vector h = width_bind _ _ _ _ (width_accept m w vector h) (λ k x. widths_timer_part k x)
+  widths_cleared : (m : Lh5801) → Widths m → (i : Interrupt) → Widths (cleared m i)
+  widths_cleared m w Ir0 = widths_ir0 m w false
+  widths_cleared m w Ir1 = widths_ir1 m w false
+  widths_cleared m w Ir2 = widths_ir2 m w false
 
-  width_powered : (m : Lh5801) → Widths m → InWidth EndWidths (powered_of m inputs)
-  width_powered m w =
-      powered_ways (InWidth EndWidths) m inputs (widths_timer_part m w)
-      (width_interrupt (with_ir1 m false) (widths_ir1 m w false) 0xFFFA (omega arith))
-      (width_interrupt (with_ir2 m false) (widths_ir2 m w false) 0xFFF8 (omega arith))
-      tt
-      (widths_timer_part (add_state_of m inputs.idle) (widths_add_state m w inputs.idle))
+  interrupt_vector_fits : (i : Interrupt) → vector_address i + 1 < 0x20000
+  interrupt_vector_fits Ir0 = omega arith
+  interrupt_vector_fits Ir1 = omega arith
+  interrupt_vector_fits Ir2 = omega arith
+
+  width_interrupt : (m : Lh5801) → Widths m → (i : Interrupt) → InWidth EndWidths (interrupt_of m i)
+  unfolding interrupt_of
+  width_interrupt m w i =
+      width_bind _ _ _ _ (width_accept (cleared m i) (widths_cleared m w i) (vector_address i) (interrupt_vector_fits i)) (λ k x. widths_timer_part k x)
+
+  width_powered : (m : Lh5801) → Widths m → (a : Option Interrupt) → InWidth EndWidths (powered_of m inputs a)
+  width_powered m w a =
+      powered_ways (InWidth EndWidths) m inputs a (λ i _. width_interrupt m w i) tt (widths_timer_part (add_state_of m inputs.idle) (widths_add_state m w inputs.idle))
       tt
       (width_instruction m w)
 

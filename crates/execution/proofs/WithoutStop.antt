@@ -1,7 +1,6 @@
 -- A step that does not stop before the stop address is the step without one.
-use Rattle.std.proofs.Common.{◌≡◌, ◌+◌, Bool, true, false, ◌||◌, sym, refl, ap, ◌∙◌}
+use Rattle.std.proofs.Common.{◌≡◌, ◌+◌, Bool, true, false, sym, refl, ap, ◌∙◌}
 use Rattle.std.proofs.Math.Path.{fun_ext}
-use mathlib.Core.Bool.{false≢true}
 use Rattle.std.specs.Prelude.{Option, Some, None}
 use Rattle.arithmetic.specs.declared.record.Lh5801.{Lh5801}
 use Rattle.arithmetic.specs.Record.{with_p}
@@ -12,13 +11,15 @@ use Rattle.execution.specs.declared.Inputs.{Inputs}
 use Rattle.execution.specs.declared.Opcode.{Opcode}
 use Rattle.execution.specs.declared.instructions.Instruction.{Instruction}
 use Rattle.execution.specs.declared.instructions.Listed.{Listed}
+use Rattle.execution.specs.declared.interrupts.Interrupt.{Interrupt}
+use Rattle.execution.specs.Interrupts.{accepted}
 use Rattle.execution.specs.Inputs.{without_stop}
 use Rattle.execution.specs.Instructions.{execute_of}
 use Rattle.execution.specs.States.{added_of}
-use Rattle.execution.specs.Step.{StepEnd, did, instruction, fetch_of, decoded_by, decoded_step_of, instruction_of, reached_of, halted_of, powered_of, step_of}
-use Rattle.execution.specs.Conditions.{accepted, Halting, Due, AddressStop, Fetches}
-use Rattle.execution.proofs.Choices.{cond_true, cond_false}
-use Rattle.execution.proofs.Tests.{ir1_accepted, ir2_accepted, accepted_by, reached_ir0, tested, tested_step, halting_step, fetching_step}
+use Rattle.execution.specs.Step.{StepEnd, did, instruction, fetch_of, decoded_by, decoded_step_of, instruction_of, reached_of, halted_of, step_of}
+use Rattle.execution.specs.Conditions.{Halting, Due, AddressStop, Fetches}
+use Rattle.execution.proofs.Choices.{cond_false}
+use Rattle.execution.proofs.Tests.{interrupt_step, halting_step, fetching_step}
 
 module _ (inputs : Inputs) where
   -- no instruction looks at it
@@ -39,26 +40,13 @@ module _ (inputs : Inputs) where
       ap (λ (f : Code Opcode → Prog StepEnd). fetch_of m.p >>= f) (fun_ext (λ o. decoded_same m o (decoded_by o.value)))
 
   module _ (m : Lh5801) where
-    -- with BF clear, with IR0 set, where an interrupt is accepted and where it is halted, the step does not look at it either
+    -- with BF clear, where an interrupt is accepted and where it is halted, the step does not look at it either
     off_same : m.bf ≡ false → step_of m (without_stop inputs) ≡ step_of m inputs
     unfolding step_of
     off_same b = cond_false m.bf _ _ b ∙ sym (cond_false m.bf _ _ b)
 
-    held_same : m.bf ≡ true → m.ir0 ≡ true → step_of m (without_stop inputs) ≡ step_of m inputs
-    unfolding step_of powered_of
-    held_same b z =
-        let held = reached_ir0 m ∙ z in
-        cond_true m.bf _ _ b ∙ cond_true (reached_of m).ir0 _ _ held ∙ sym (cond_true m.bf _ _ b ∙ cond_true (reached_of m).ir0 _ _ held)
-
-    accepted_same : m.bf ≡ true → m.ir0 ≡ false → accepted m ≡ true → step_of m (without_stop inputs) ≡ step_of m inputs
-    unfolding tested
-    accepted_same b z a =
-        tested_step m (without_stop inputs) b z ∙ go (ir1_accepted m) (ir2_accepted m) (sym (accepted_by m b z) ∙ a) ∙ sym (tested_step m inputs b z)
-      where
-        go : (i j : Bool) → i || j ≡ true → tested m (without_stop inputs) i j ≡ tested m inputs i j
-        go true j e = refl
-        go false true e = refl
-        go false false e = absurd (false≢true e)
+    interrupt_same : m.bf ≡ true → (i : Interrupt) → accepted m ≡ Some i → step_of m (without_stop inputs) ≡ step_of m inputs
+    interrupt_same b i e = interrupt_step m (without_stop inputs) b i e ∙ sym (interrupt_step m inputs b i e)
 
     halted_same : Halting m → step_of m (without_stop inputs) ≡ step_of m inputs
     unfolding halted_of
@@ -68,14 +56,13 @@ module _ (inputs : Inputs) where
     due_same g f = fetching_step m (without_stop inputs) g ∙ instruction_same (reached_of m) ∙ sym (fetching_step m inputs f)
 
     pub step_same : ¬ AddressStop inputs m → step_of m (without_stop inputs) ≡ step_of m inputs
-    step_same n = go m.bf refl m.ir0 refl (accepted m) refl m.is_halted refl
+    step_same n = go m.bf refl (accepted m) refl m.is_halted refl
       where
-        go : (b : Bool) → m.bf ≡ b → (z : Bool) → m.ir0 ≡ z → (a : Bool) → accepted m ≡ a → (h : Bool) → m.is_halted ≡ h
+        go : (b : Bool) → m.bf ≡ b → (a : Option Interrupt) → accepted m ≡ a → (h : Bool) → m.is_halted ≡ h
             → step_of m (without_stop inputs) ≡ step_of m inputs
-        go false b z e a f h g = off_same b
-        go true b true e a f h g = held_same b e
-        go true b false e true f h g = accepted_same b e f
-        go true b false e false f true g = halted_same (record { on = b; halted = g; free = e; none = f })
-        go true b false e false f false g =
-            let due : Due m = record { on = b; free = e; none = f; running = g } in
+        go false b a e h g = off_same b
+        go true b (Some i) e h g = interrupt_same b i e
+        go true b None e true g = halted_same (record { on = b; halted = g; none = e })
+        go true b None e false g =
+            let due : Due m = record { on = b; none = e; running = g } in
             due_same (record { due = due; elsewhere = λ e. absurd cc }) (record { due = due; elsewhere = λ e. n (record { due = due; address = e }) })

@@ -1,23 +1,18 @@
 -- The conditions of a step's stops, in the words of documents 01 and 02, on the record and the pages before the step.
-use Rattle.std.specs.Prelude.{◌≡◌, ℕ, Bool, true, false, not, ◌&&◌, ◌||◌, ◌≢◌, Some}
+use Rattle.std.specs.Prelude.{◌≡◌, ℕ, true, false, ◌≢◌, Some, None}
 use Rattle.arithmetic.specs.declared.record.Lh5801.{Lh5801}
 use Rattle.execution.specs.declared.Inputs.{Inputs}
-use Rattle.arithmetic.specs.Flags.{IE, has_flag}
 use Rattle.pages.specs.Pages.{Pages, at}
 use Rattle.pages.specs.Stack.{up16}
+use Rattle.execution.specs.Interrupts.{accepted}
 use Rattle.execution.specs.Listed.{listed_first, listed_after_fd}
 use Rattle.execution.specs.Step.{Kind, StepEnd, did}
 
--- document 01's "accepted": BF set, IR0 clear, IE set, and IR1 set, timer reached, or IR2 set
-abbrev pub accepted : Lh5801 → Bool
-accepted m = m.bf && not m.ir0 && has_flag m.t IE && (m.ir1 || m.is_timer_reached || m.ir2)
-
--- a halted step: "BF set, halted, IR0 clear, no interrupt accepted"
+-- a halted step: "BF set, halted, IR0 clear, no interrupt accepted". A set IR0 is an interrupt that is accepted (document 02, F-6)
 pub record Halting (m : Lh5801) : Type 0 where
   pub on : m.bf ≡ true
   pub halted : m.is_halted ≡ true
-  pub free : m.ir0 ≡ false
-  pub none : accepted m ≡ false
+  pub none : accepted m ≡ None
 
 -- 7: that, and the idle figure is 0 (document 02, F-1)
 pub record HaltedStop (inputs : Inputs) (m : Lh5801) : Type 0 where
@@ -29,11 +24,10 @@ pub record Waits (inputs : Inputs) (m : Lh5801) : Type 0 where
   pub halting : Halting m
   pub idle : inputs.idle ≢ 0
 
--- an instruction is due: BF set, IR0 clear, no interrupt accepted, not halted
+-- an instruction is due: BF set, no interrupt accepted, not halted
 pub record Due (m : Lh5801) : Type 0 where
   pub on : m.bf ≡ true
-  pub free : m.ir0 ≡ false
-  pub none : accepted m ≡ false
+  pub none : accepted m ≡ None
   pub running : m.is_halted ≡ false
 
 -- 12: that, and P equals the stop address (document 02, F-5)

@@ -1,4 +1,5 @@
 pub mod Inputs
+pub mod Interrupts
 pub mod Places
 pub mod Instructions
 pub mod Opcodes
@@ -11,3 +12,4 @@ pub mod Completed
 pub mod Code
 pub mod Conditions
 pub mod Waiting
+pub mod Entered

@@ -1,10 +1,9 @@
--- One step (document 01, "One step"), in its order. With an idle figure a halted step waits (document 02, F-1), and a stop address stops a step before
--- the instruction there (F-5).
-use Rattle.std.specs.Prelude.{ℕ, ◌+◌, true, false, cond, ◌&&◌, ◌==◌}
+-- One step (document 01, "One step"), in its order. With an idle figure a halted step waits (document 02, F-1), a stop address stops a step before
+-- the instruction there (F-5), and IR0 is an interrupt (F-6).
+use Rattle.std.specs.Prelude.{ℕ, ◌+◌, true, false, cond, ◌==◌}
 use Rattle.arithmetic.specs.declared.record.Lh5801.{Lh5801}
 use Rattle.execution.specs.declared.Inputs.{Inputs}
-use Rattle.arithmetic.specs.Record.{with_p, with_ir1, with_ir2, with_is_timer_reached}
-use Rattle.arithmetic.specs.Flags.{IE, has_flag}
+use Rattle.arithmetic.specs.Record.{with_p, with_ir1, with_is_timer_reached}
 use Rattle.pages.specs.Prog.{Prog, done, ◌>>=◌}
 use Rattle.pages.specs.Stack.{readop_of, accept_of}
 use Rattle.pages.specs.Timer.{add_state_of, timer_part_of}
@@ -15,33 +14,31 @@ use Rattle.execution.specs.declared.Opcode.{Opcode}
 use Rattle.execution.specs.declared.Opcode.TheVariants.{First, AfterFd}
 use Rattle.execution.specs.declared.Stop.{Stop}
 use Rattle.execution.specs.declared.Stop.TheVariants.{Unlisted, Halted, AtAddress}
+use Rattle.execution.specs.declared.interrupts.Interrupt.{Interrupt}
 use Rattle.execution.specs.Inputs.{stops_at}
+use Rattle.execution.specs.Interrupts.{accepted, cleared, vector_address}
 use Rattle.execution.specs.Instructions.{execute_of}
 use Rattle.execution.specs.Opcodes.{decoded}
 use Rattle.execution.specs.OpcodesFd.{decoded_fd}
 use Rattle.execution.specs.States.{added_of}
 
--- what a completed step was: BF was off, IR0 held it, an interrupt was accepted, with its vector, it was halted and waited, or an instruction was
--- executed
+-- what a completed step was: BF was off, an interrupt was accepted, it was halted and waited, or an instruction was executed
 pub data Kind : Type 0 where
   off : Kind
-  held : Kind
-  interrupt : ℕ → Kind
+  interrupt : Interrupt → Kind
   waiting : Kind
   instruction : Opcode → Kind
 
 -- the least and the greatest number of states of a completed step; one that waits has exactly the idle figure's
 abbrev pub fewest_states : Inputs → Kind → ℕ
 fewest_states inputs off = 8
-fewest_states inputs held = 0
-fewest_states inputs (interrupt vector) = 0
+fewest_states inputs (interrupt i) = 0
 fewest_states inputs waiting = inputs.idle
 fewest_states inputs (instruction opcode) = 4
 
 abbrev pub most_states : Inputs → Kind → ℕ
 most_states inputs off = 8
-most_states inputs held = 0
-most_states inputs (interrupt vector) = 0
+most_states inputs (interrupt i) = 0
 most_states inputs waiting = inputs.idle
 most_states inputs (instruction opcode) = 23
 
@@ -81,10 +78,10 @@ instruction_of m inputs = do
   decoded_step_of m inputs o (decoded_by o.value)
 
 -- an accepted interrupt: no states are added
-unfoldable pub interrupt_of : Lh5801 → ℕ → Prog StepEnd
-interrupt_of m vector = do
-  k ← accept_of m vector
-  done (did (timer_part_of k) 0 (interrupt vector))
+unfoldable pub interrupt_of : Lh5801 → Interrupt → Prog StepEnd
+interrupt_of m i = do
+  k ← accept_of (cleared m i) (vector_address i)
+  done (did (timer_part_of k) 0 (interrupt i))
 
 -- "Timer reached moves to IR1"
 unfoldable pub reached_of : Lh5801 → Lh5801
@@ -100,15 +97,11 @@ halted_of m inputs =
 unfoldable pub due_instruction_of : Lh5801 → Inputs → Prog StepEnd
 due_instruction_of m inputs = cond (stops_at inputs m.p) (done (stopped AtAddress)) (instruction_of m inputs)
 
--- with BF set: IR0; else IR1 with IE; else IR2 with IE; else halted; else one instruction
-unfoldable pub powered_of : Lh5801 → Inputs → Prog StepEnd
-powered_of m inputs =
-    cond m.ir0 (done (did (timer_part_of m) 0 held))
-    (cond (m.ir1 && has_flag m.t IE) (interrupt_of (with_ir1 m false) 0xFFFA)
-    (cond (m.ir2 && has_flag m.t IE) (interrupt_of (with_ir2 m false) 0xFFF8)
-    (cond m.is_halted (done (halted_of m inputs))
-    (due_instruction_of m inputs))))
+-- with BF set: the interrupt that is accepted; else halted; else one instruction
+unfoldable pub powered_of : Lh5801 → Inputs → Option Interrupt → Prog StepEnd
+powered_of m inputs (Some i) = interrupt_of m i
+powered_of m inputs None = cond m.is_halted (done (halted_of m inputs)) (due_instruction_of m inputs)
 
 -- "BF clear: 8 states, nothing else, no timer part"
 unfoldable pub step_of : Lh5801 → Inputs → Prog StepEnd
-step_of m inputs = cond m.bf (powered_of (reached_of m) inputs) (done (did (add_state_of m 8) 8 off))
+step_of m inputs = cond m.bf (powered_of (reached_of m) inputs (accepted m)) (done (did (add_state_of m 8) 8 off))

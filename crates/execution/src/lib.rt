@@ -1,13 +1,11 @@
 //! Decoding and execution of one instruction, and one step.
 #![tactic(auto)]
 
-ghost use Rattle.std.specs.Prelude.{◌≡◌, ◌<◌, true, false, if◌then◌else◌};
-ghost use Rattle.arithmetic.specs.Record.{with_ir1, with_ir2};
+ghost use Rattle.std.specs.Prelude.{◌≡◌, true, false};
 ghost use Rattle.pages.specs.Prog.{mapped};
-ghost use Rattle.pages.specs.Stack.{accept_of};
 ghost use Rattle.pages.specs.Contract.{Changes, Reads};
 ghost use Rattle.execution.specs.Instructions.{execute_of};
-ghost use Rattle.execution.specs.Step.{fetch_of, decoded_by, reached_of, step_of};
+ghost use Rattle.execution.specs.Step.{fetch_of, decoded_by, reached_of, halted_of, step_of};
 ghost use Rattle.execution.specs.Code.Outcomes.{outcome_of};
 ghost use Rattle.execution.specs.Code.Due.{due_of, stops_before_of, Ready, settled_of, executed_of, DueAgain};
 ghost use Rattle.execution.specs.Inputs.{of_keyboard, stops_at};
@@ -18,6 +16,7 @@ use pages::{Code, Memory, View};
 
 pub mod flow;
 pub mod instructions;
+pub mod interrupts;
 pub mod opcodes;
 pub mod opcodes_fd;
 pub mod operations;
@@ -208,37 +207,19 @@ pub fn reached(cpu: Lh5801) -> Lh5801
     }
 }
 
-// An enabled request is accepted: IR1 goes before IR2.
-fn accepted(cpu: Lh5801, memory: &mut Memory) -> Lh5801
-    ensures { Changes (accept_of (if cpu.ir1 then with_ir1 cpu false else with_ir2 cpu false) (if cpu.ir1 then 0xFFFA else 0xFFF8)) memory result }
+// A step of a halted unit, when no interrupt is accepted: it stops, or waits.
+#[tactic(auto, unfolding(crate::specs::Step::halted_of))]
+fn halted(cpu: Lh5801, inputs: Inputs) -> Result<Lh5801, Stop>
+    ensures { result ≡ outcome_of (halted_of cpu inputs) }
 {
-    if cpu.ir1 {
-        pages::accept(cpu.with_ir1(false), memory, 0xfffa)
-    } else {
-        pages::accept(cpu.with_ir2(false), memory, 0xfff8)
-    }
-}
-
-// A step with BF set and timer reached clear in which no instruction is due.
-#[tactic(auto, using(crate::proofs::Order::step_halted, crate::proofs::Order::step_waiting))]
-fn powered_step(cpu: Lh5801, memory: &mut Memory, inputs: Inputs) -> Result<Lh5801, Stop>
-    requires { (cpu.bf ≡ true) × (cpu.is_timer_reached ≡ false) × (due_of cpu ≡ false) }
-    ensures { Changes (mapped outcome_of (step_of cpu inputs)) memory result }
-{
-    if cpu.ir0 {
-        return Ok(pages::timer_part(cpu));
-    }
-    if (cpu.ir1 | cpu.ir2) & arithmetic::get_flag(cpu.t, arithmetic::IE) {
-        return Ok(pages::timer_part(accepted(cpu, memory)));
-    }
-    // Halted.
     if inputs.idle == 0 {
-        return Err(Stop::Halted);
+        Err(Stop::Halted)
+    } else {
+        Ok(pages::wait(cpu, inputs.idle))
     }
-    Ok(pages::wait(cpu, inputs.idle))
 }
 
-/// An instruction is due: BF set, IR0 clear, no interrupt accepted, not halted.
+/// An instruction is due: BF set, no interrupt accepted, not halted.
 pub fn due(cpu: Lh5801) -> bool
     ensures { result ≡ due_of cpu }
 {
@@ -256,13 +237,16 @@ pub fn stops_before(cpu: Lh5801, inputs: Inputs) -> bool
 }
 
 /// One step in which no instruction is due.
-#[tactic(auto, using(crate::proofs::Order::reached_bf, crate::proofs::Order::reached_clear, crate::proofs::Order::reached_due, crate::proofs::Order::step_reached, crate::proofs::Order::step_off))]
 pub fn step_cpu(cpu: Lh5801, memory: &mut Memory, inputs: Inputs) -> Result<Lh5801, Stop>
     requires { due_of cpu ≡ false }
     ensures { Changes (mapped outcome_of (step_of cpu inputs)) memory result }
 {
     if cpu.bf {
-        powered_step(reached(cpu), memory, inputs)
+        let moved = reached(cpu);
+        match interrupts::accepted(cpu) {
+            Some(interrupt) => Ok(pages::timer_part(interrupt.enter(moved, memory))),
+            None => halted(moved, inputs),
+        }
     } else {
         Ok(pages::add_state(cpu, 8))
     }

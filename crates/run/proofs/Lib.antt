@@ -16,6 +16,7 @@ pub mod Reading
 pub mod Marked
 pub mod AccessOrders
 pub mod Waiting
+pub mod InterruptOrder
 pub mod Protected
 pub mod StopAddress
 pub mod Widths

@@ -14,7 +14,6 @@ use Rattle.execution.specs.Code.Outcomes.{outcome_of}
 use Rattle.execution.specs.Inputs.{equals_address, stops_at}
 use Rattle.execution.specs.Code.Due.{due_of, Ready}
 use Rattle.execution.proofs.Order.{reached_ready, reached_back, step_reached}
-use Rattle.execution.proofs.DueTest.{due_on}
 use Rattle.execution.proofs.Tests.{reached_p}
 use Rattle.execution.proofs.StopsClean.{stop_no_write}
 use Rattle.run.specs.declared.Settings.{Settings}
@@ -110,7 +109,7 @@ one_stops {s} {m = m} h d = record { leads = stop_leads h (outcome s.inputs m d)
 
 -- instruction after instruction: where one is due, timer reached first moves to IR1
 same_step : (inputs : Inputs) (m : Lh5801) {first : Lh5801} → due_of m ≡ true → first ≡ reached_of m → step_of first inputs ≡ step_of m inputs
-same_step inputs m due moved = ap (λ (k : Lh5801). step_of k inputs) moved ∙ step_reached m inputs (due_on m due)
+same_step inputs m due moved = ap (λ (k : Lh5801). step_of k inputs) moved ∙ step_reached m inputs due
 
 -- and back
 moved_back : (m : Lh5801) → unmoved_of (reached_of m) m ≡ m

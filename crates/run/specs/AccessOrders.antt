@@ -151,6 +151,15 @@ access_orders =
     (write_of 0x0C 0x02 ∷ write_of 0x0B 0x04 ∷ write_of 0x0A 0x03 ∷ read_of 0xFFFA 0xFF ∷ read_of 0xFFFB 0xFF ∷ [])
     -- with IE clear it is not taken
     ∷ seen (0x00 ∷ []) (with_ir1 start_record true) 0 6 (read_of 0x00 0x00 ∷ [])
+    -- IR0: alone, before both other lines, halted; and with IE clear
+    ∷ seen [] (with_ir0 enabled true) 0 0
+    (write_of 0x0C 0x02 ∷ write_of 0x0B 0x04 ∷ write_of 0x0A 0x03 ∷ read_of 0xFFFC 0xFF ∷ read_of 0xFFFD 0xFF ∷ [])
+    ∷ seen [] (with_ir0 (with_ir2 (with_ir1 enabled true) true) true) 0 0
+    (write_of 0x0C 0x02 ∷ write_of 0x0B 0x04 ∷ write_of 0x0A 0x03 ∷ read_of 0xFFFC 0xFF ∷ read_of 0xFFFD 0xFF ∷ [])
+    ∷ seen [] (with_is_halted (with_ir0 enabled true) true) 0 0
+    (write_of 0x0C 0x02 ∷ write_of 0x0B 0x04 ∷ write_of 0x0A 0x03 ∷ read_of 0xFFFC 0xFF ∷ read_of 0xFFFD 0xFF ∷ [])
+    ∷ seen [] (with_ir0 (with_ir2 (with_ir1 start_record true) true) true) 0 0
+    (write_of 0x0C 0x00 ∷ write_of 0x0B 0x00 ∷ write_of 0x0A 0x00 ∷ read_of 0xFFFC 0xFF ∷ read_of 0xFFFD 0xFF ∷ [])
     -- 5: the reads of a step that stops, here of an unlisted first byte and of a byte past the page's end
     ∷ seen (0x31 ∷ []) start_record 5 0 (read_of 0x00 0x31 ∷ [])
     ∷ seen [] (with_p start_record 0x10) 5 0 (read_of 0x10 0xFF ∷ [])
@@ -158,9 +167,9 @@ access_orders =
     ∷ seen (0xFD ∷ 0x00 ∷ []) start_record 6 0 (read_of 0x00 0xFD ∷ read_of 0x01 0x00 ∷ [])
     ∷ seen (0xFD ∷ 0xFD ∷ []) start_record 6 0 (read_of 0x00 0xFD ∷ read_of 0x01 0xFD ∷ [])
     ∷ seen (replicate 15 0x00 ++ (0xFD ∷ [])) (with_p start_record 0x0F) 6 0 (read_of 0x0F 0xFD ∷ read_of 0x10 0xFF ∷ [])
-    -- BF clear, IR0 set, and 7: no access
+    -- BF clear, with IR0 set too, and 7: no access
     ∷ seen (0x01 ∷ []) (with_bf start_record false) 0 8 []
-    ∷ seen (0x01 ∷ []) (with_ir0 start_record true) 0 0 []
+    ∷ seen (0x01 ∷ []) (with_ir0 (with_bf start_record false) true) 0 8 []
     ∷ seen (0x01 ∷ []) (with_is_halted start_record true) 7 0 []
     -- a read past the end gives FF; a dropped write stays in the list
     ∷ seen (0x01 ∷ []) (with_x start_record 0x40) 0 7 (read_of 0x00 0x01 ∷ read_of 0x40 0xFF ∷ [])

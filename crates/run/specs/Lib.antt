@@ -15,5 +15,6 @@ pub mod Report
 pub mod Marked
 pub mod AccessOrders
 pub mod Waiting
+pub mod InterruptOrder
 pub mod Protected
 pub mod StopAddress

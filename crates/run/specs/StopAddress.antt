@@ -6,7 +6,9 @@ use Rattle.pages.specs.Prog.{Access, read_of, write_of, Ran}
 use Rattle.execution.specs.declared.Opcode.TheVariants.{First}
 use Rattle.execution.specs.declared.Stop.TheVariants.{Unlisted, Halted, AtAddress}
 use Rattle.execution.specs.Inputs.{without_stop}
-use Rattle.execution.specs.Step.{off, held, interrupt, waiting, instruction, StepEnd, did, stopped}
+use Rattle.execution.specs.declared.interrupts.Interrupt.{Interrupt}
+use Rattle.execution.specs.declared.interrupts.Interrupt.TheVariants.{Ir0, Ir1, Ir2}
+use Rattle.execution.specs.Step.{off, interrupt, waiting, instruction, StepEnd, did, stopped}
 use Rattle.execution.specs.Conditions.{AddressStop}
 use Rattle.run.specs.declared.Settings.{Settings}
 use Rattle.run.specs.declared.End.{End}
@@ -68,12 +70,12 @@ ldi_accesses = read_of 0x0000 0xB5 ∷ read_of 0x0001 0x42 ∷ []
 abbrev pub after_states : ℕ → ℕ → Lh5801
 after_states states flags = record_of (0 ∷ 0 ∷ 0 ∷ 0 ∷ 0 ∷ 0x0020 ∷ 0x0000 ∷ 0 ∷ flags ∷ states ∷ 0 ∷ states ∷ [])
 
--- an interrupt entered from P 0000: nothing is stored at the stack, nor read at the vector
-abbrev pub entered : ℕ → StepEnd
-entered vector = did (record_of (0 ∷ 0 ∷ 0 ∷ 0 ∷ 0 ∷ 0x001D ∷ 0xFFFF ∷ 0 ∷ 0x008 ∷ 0 ∷ 0 ∷ 0 ∷ [])) 0 (interrupt vector)
-
-abbrev pub entry_accesses : ℕ → List Access
-entry_accesses vector = write_of 0x0020 0x02 ∷ write_of 0x001F 0x00 ∷ write_of 0x001E 0x00 ∷ read_of vector 0xFF ∷ read_of (vector + 1) 0xFF ∷ []
+-- P is 0000, the stop address, and T 02, which is IE; flags as given: an interrupt is entered, with its vector there, and these flags are left. Nothing
+-- is stored at the stack, nor read at the vector
+abbrev pub enters : ℕ → Interrupt → ℕ → ℕ → AddressStep
+enters flags i vector left =
+    steps_to 0x0000 0 (at_p 2 0x0000 flags) (did (record_of (0 ∷ 0 ∷ 0 ∷ 0 ∷ 0 ∷ 0x001D ∷ 0xFFFF ∷ 0 ∷ left ∷ 0 ∷ 0 ∷ 0 ∷ [])) 0 (interrupt i))
+    (write_of 0x0020 0x02 ∷ write_of 0x001F 0x00 ∷ write_of 0x001E 0x00 ∷ read_of vector 0xFF ∷ read_of (vector + 1) 0xFF ∷ [])
 
 unfoldable pub address_steps : List AddressStep
 address_steps =
@@ -93,12 +95,12 @@ address_steps =
     ∷ steps_to 0x0100 0 (at_p 0 0x0000 0x008) ldi_done ldi_accesses
     ∷ record (steps_to 0x0000 0 (at_p 0 0x0000 0x008) ldi_done ldi_accesses) { stop = None }
     ∷ steps_to 0x0002 0 (at_p 0 0x0003 0x008) (stopped (Unlisted (First 0x31))) (read_of 0x0003 0x31 ∷ [])
-    -- no instruction is due there: BF clear; IR0 set; an interrupt accepted, from timer reached, IR1 and IR2; halted, where it stops with 7 or waits
+    -- no instruction is due there: BF clear; an interrupt accepted, from timer reached, IR1, IR2 and IR0; halted, where it stops with 7 or waits
     ∷ steps_to 0x0000 0 (at_p 0 0x0000 0x000) (did (after_states 8 0x000) 8 off) []
-    ∷ steps_to 0x0000 0 (at_p 2 0x0000 0x0E8) (did (at_p 2 0x0000 0x0E8) 0 held) []
-    ∷ steps_to 0x0000 0 (at_p 2 0x0000 0x108) (entered 0xFFFA) (entry_accesses 0xFFFA)
-    ∷ steps_to 0x0000 0 (at_p 2 0x0000 0x048) (entered 0xFFFA) (entry_accesses 0xFFFA)
-    ∷ steps_to 0x0000 0 (at_p 2 0x0000 0x088) (entered 0xFFF8) (entry_accesses 0xFFF8)
+    ∷ enters 0x108 Ir1 0xFFFA 0x008
+    ∷ enters 0x048 Ir1 0xFFFA 0x008
+    ∷ enters 0x088 Ir2 0xFFF8 0x008
+    ∷ enters 0x0E8 Ir0 0xFFFC 0x0C8
     ∷ steps_to 0x0000 0 (at_p 0 0x0000 0x009) (stopped Halted) []
     ∷ steps_to 0x0000 5 (at_p 0 0x0000 0x009) (did (after_states 5 0x009) 5 waiting) []
     ∷ []

@@ -1,11 +1,13 @@
 -- Halted steps with an idle figure (document 02, F-1), and a park from HLT to the timer's entry: the whole of what must come out.
 -- proofs/Waiting.antt has the theorems over them.
-use Rattle.std.specs.Prelude.{ℕ, ◌-◌, ◌^◌, List, [], ◌∷◌, ◌++◌, replicate}
+use Rattle.std.specs.Prelude.{ℕ, ◌+◌, ◌-◌, ◌^◌, List, [], ◌∷◌, ◌++◌, replicate}
 use Rattle.arithmetic.specs.declared.record.Lh5801.{Lh5801}
 use Rattle.execution.specs.declared.Stop.TheVariants.{Halted}
 use Rattle.pages.specs.Pages.{Pages, writable}
 use Rattle.pages.specs.Prog.{Access, read_of, write_of, Ran}
-use Rattle.execution.specs.Step.{off, held, interrupt, waiting, StepEnd, did, stopped}
+use Rattle.execution.specs.declared.interrupts.Interrupt.{Interrupt}
+use Rattle.execution.specs.declared.interrupts.Interrupt.TheVariants.{Ir0, Ir1, Ir2}
+use Rattle.execution.specs.Step.{off, interrupt, waiting, StepEnd, did, stopped}
 use Rattle.run.specs.declared.End.TheVariants.{AllSteps}
 use Rattle.run.specs.Run.{CallResult, call_result}
 use Rattle.run.specs.RecordNumbers.{record_of}
@@ -33,6 +35,12 @@ stops m = ends 0 m (stopped Halted) []
 abbrev pub waits : ℕ → Lh5801 → Lh5801 → HaltedCase
 waits idle m k = ends idle m (did k idle waiting) []
 
+-- an interrupt is accepted, with S and P 0000: T is pushed, the vector reads FFFF, and of the flags only BF is left
+abbrev pub enters : ℕ → ℕ → ℕ → Interrupt → ℕ → HaltedCase
+enters idle t flags i vector =
+    ends idle (cpu t 0 flags 0 0 0) (did (record_of (0 ∷ 0 ∷ 0 ∷ 0 ∷ 0 ∷ 0xFFFD ∷ 0xFFFF ∷ 0 ∷ 0x008 ∷ 0 ∷ 0 ∷ 0 ∷ [])) 0 (interrupt i))
+    (write_of 0x0000 t ∷ write_of 0xFFFF 0x00 ∷ write_of 0xFFFE 0x00 ∷ read_of vector 0xFF ∷ read_of (vector + 1) 0xFF ∷ [])
+
 -- flags: 001 halted, 008 BF, 020 IR0, 040 IR1, 080 IR2, 100 timer reached
 unfoldable pub halted_cases : List HaltedCase
 halted_cases =
@@ -52,13 +60,13 @@ halted_cases =
     ∷ waits 5 (cpu 0 0 0x109 0 0 0) (cpu 0 0 0x049 5 0 5)
     ∷ waits 5 (cpu 0 0 0x0C9 0 0 0) (cpu 0 0 0x0C9 5 0 5)
     ∷ stops (cpu 0 0 0x109 0 0 0)
-    -- IE set: timer reached, IR1 and IR2 are accepted, whatever the idle figure is
-    ∷ ends 5 (cpu 2 0 0x109 0 0 0) (did (record_of (0 ∷ 0 ∷ 0 ∷ 0 ∷ 0 ∷ 0xFFFD ∷ 0xFFFF ∷ 0 ∷ 0x008 ∷ 0 ∷ 0 ∷ 0 ∷ [])) 0 (interrupt 0xFFFA))
-    (write_of 0x0000 0x02 ∷ write_of 0xFFFF 0x00 ∷ write_of 0xFFFE 0x00 ∷ read_of 0xFFFA 0xFF ∷ read_of 0xFFFB 0xFF ∷ [])
-    ∷ ends 5 (cpu 2 0 0x089 0 0 0) (did (record_of (0 ∷ 0 ∷ 0 ∷ 0 ∷ 0 ∷ 0xFFFD ∷ 0xFFFF ∷ 0 ∷ 0x008 ∷ 0 ∷ 0 ∷ 0 ∷ [])) 0 (interrupt 0xFFF8))
-    (write_of 0x0000 0x02 ∷ write_of 0xFFFF 0x00 ∷ write_of 0xFFFE 0x00 ∷ read_of 0xFFF8 0xFF ∷ read_of 0xFFF9 0xFF ∷ [])
-    -- with IR0 set, and with BF clear, it does not wait
-    ∷ ends 5 (cpu 0 0 0x029 0 0 0) (did (cpu 0 0 0x029 0 0 0) 0 held) []
+    -- timer reached, IR1 and IR2 are accepted with IE set, and IR0 with IE clear too, whatever the idle figure is
+    ∷ enters 5 2 0x109 Ir1 0xFFFA
+    ∷ enters 5 2 0x089 Ir2 0xFFF8
+    ∷ enters 5 0 0x029 Ir0 0xFFFC
+    ∷ enters 0 2 0x029 Ir0 0xFFFC
+    -- with BF clear it does not wait, with IR0 set too
+    ∷ ends 5 (cpu 0 0 0x021 0 0 0) (did (cpu 0 0 0x021 8 0 8) 8 off) []
     ∷ ends 5 (cpu 0 0 0x101 0 0 0) (did (cpu 0 0 0x101 8 0 8) 8 off) []
     ∷ []
 

@@ -1,10 +1,9 @@
 -- How the code is built, and need not be believed: proofs/AccessesAhead.antt shows that these are the accesses of the step.
 -- The accesses of the coming step, computed from the record and the pages before it, for the log of document 02's F-2. Each instruction has a
 -- shape, what is read and written after its own bytes; `shape_accesses` says what each shape stands for.
-use Rattle.std.specs.Prelude.{ℕ, zero, suc, ◌+◌, ◌/◌, ◌%◌, Bool, cond, ◌&&◌, ◌||◌, Option, Some, None, List, [], ◌∷◌, ◌++◌, ◌==◌}
+use Rattle.std.specs.Prelude.{ℕ, zero, suc, ◌+◌, ◌/◌, ◌%◌, cond, ◌&&◌, Option, Some, None, List, [], ◌∷◌, ◌++◌, ◌==◌}
 use Rattle.arithmetic.specs.declared.record.Lh5801.{Lh5801}
 use Rattle.arithmetic.specs.Record.{with_p}
-use Rattle.arithmetic.specs.Flags.{IE, has_flag}
 use Rattle.arithmetic.specs.Shifts.{drl_moved, drr_moved}
 use Rattle.pages.specs.declared.Code.{Code}
 use Rattle.pages.specs.Pages.{Pages, at, stored}
@@ -24,6 +23,8 @@ use Rattle.execution.specs.declared.shapes.Shape.{Shape}
 use Rattle.execution.specs.declared.shapes.Shape.TheVariants as shapes
 use Rattle.execution.specs.declared.Opcode.{Opcode}
 use Rattle.execution.specs.declared.Opcode.TheVariants.{First, AfterFd}
+use Rattle.execution.specs.declared.interrupts.Interrupt.{Interrupt}
+use Rattle.execution.specs.Interrupts.{accepted, vector_address}
 use Rattle.execution.specs.Places.{word_in, locate_of}
 use Rattle.execution.specs.Instructions.{changed_of, holds_of}
 use Rattle.execution.specs.Step.{fetched, decoded_by}
@@ -179,16 +180,11 @@ fetched_accesses m pages o (Some shape) = opcode_accesses pages m.p o.value ++ s
 unfoldable pub instruction_accesses : Lh5801 → Pages → List Access
 instruction_accesses m pages = fetched_accesses m pages (opcode_at pages m.p) (shape_by (opcode_at pages m.p).value)
 
--- with BF set: none where IR0 is set; those of an accepted interrupt, where `first` says that IR1 is set or the timer reached; none where the
--- unit is halted, whether the step waits or stops; else those of the instruction
-abbrev pub powered_accesses : Lh5801 → Pages → Bool → List Access
-powered_accesses m pages first =
-    cond m.ir0 []
-    (cond (first && has_flag m.t IE) (accept_accesses m pages 0xFFFA)
-    (cond (m.ir2 && has_flag m.t IE) (accept_accesses m pages 0xFFF8)
-    (cond m.is_halted []
-    (instruction_accesses m pages))))
+-- with BF set: those of the interrupt that is accepted; none where the unit is halted, whether the step waits or stops; else those of the instruction
+abbrev pub powered_accesses : Lh5801 → Pages → Option Interrupt → List Access
+powered_accesses m pages (Some i) = accept_accesses m pages (vector_address i)
+powered_accesses m pages None = cond m.is_halted [] (instruction_accesses m pages)
 
 -- the accesses of the coming step
 abbrev pub step_accesses : Lh5801 → Pages → List Access
-step_accesses m pages = cond m.bf (powered_accesses m pages (m.is_timer_reached || m.ir1)) []
+step_accesses m pages = cond m.bf (powered_accesses m pages (accepted m)) []

@@ -1,0 +1,94 @@
+-- Which interrupt a step enters, and what the entry leaves, field by field.
+use Rattle.std.proofs.Common.{◌≡◌, ℕ, Bool, true, false, ◌||◌, ◌↔◌, sym, refl, ap, ◌∙◌, subst}
+use Rattle.std.specs.Prelude.{Option, Some, None}
+use Rattle.arithmetic.specs.declared.record.Lh5801.{Lh5801}
+use Rattle.arithmetic.specs.Record.{with_t, with_s, with_p, with_is_halted, with_ir0, with_ir1, with_ir2}
+use Rattle.pages.specs.Pages.{Pages}
+use Rattle.pages.specs.Prog.{◌>>=◌, read, write, after, exec}
+use Rattle.pages.specs.Stack.{mem16_of, push_of, push_word_of, push_state_of, accept_of}
+use Rattle.pages.specs.Timer.{timer_part_of}
+use Rattle.pages.proofs.Always.{Always, always_then}
+use Rattle.execution.specs.declared.Inputs.{Inputs}
+use Rattle.execution.specs.declared.instructions.Listed.{Listed}
+use Rattle.execution.specs.declared.Opcode.{Opcode}
+use Rattle.pages.specs.declared.Code.{Code}
+use Rattle.execution.specs.declared.interrupts.Interrupt.{Interrupt}
+use Rattle.execution.specs.declared.interrupts.Interrupt.TheVariants.{Ir0, Ir1, Ir2}
+use Rattle.execution.specs.Instructions.{execute_of}
+use Rattle.execution.specs.Interrupts.{accepted, cleared, vector_address}
+use Rattle.execution.specs.Step.{Kind, off, interrupt, waiting, instruction, StepEnd, did, decoded_by, fetch_of, decoded_step_of, instruction_of, interrupt_of, reached_of, step_of}
+use Rattle.execution.specs.Entered.{Enters, entered_of, Entered}
+use Rattle.execution.proofs.Choices.{cond_false}
+use Rattle.execution.proofs.Accepted.{accepted_is}
+use Rattle.execution.proofs.Tests.{powered_step, interrupt_step}
+use Rattle.execution.proofs.Waiting.{asked, reached_fields}
+use Rattle.execution.proofs.Ways.{Did, did_exec, powered_ways}
+
+module _ (m : Lh5801) where
+  -- the lines of the interrupt that a step enters
+  enters_lines : (i : Interrupt) → Enters m i ↔ ((m.bf ≡ true) × (accepted m ≡ Some i))
+  enters_lines Ir0 = (λ e. (e.0, (accepted_is m Ir0).1 e.1), λ e. (e.0, (accepted_is m Ir0).0 e.1))
+  enters_lines Ir1 = (λ e. (e.0, (accepted_is m Ir1).1 (e.1, e.2, e.3)), λ e. let l = (accepted_is m Ir1).0 e.1 in (e.0, l.0, l.1, l.2))
+  enters_lines Ir2 = (λ e. (e.0, (accepted_is m Ir2).1 (e.1, e.2, e.3, e.4)), λ e. let l = (accepted_is m Ir2).0 e.1 in (e.0, l.0, l.1, l.2, l.3))
+
+  -- a step is of an interrupt's kind only from such a record
+  abbrev FromLines : Kind → Type 0
+  FromLines off = Unit {0}
+  FromLines (interrupt i) = Enters m i
+  FromLines waiting = Unit {0}
+  FromLines (instruction opcode) = Unit {0}
+
+  abbrev EntersOnly : StepEnd → Type 0
+  EntersOnly = Did (λ k n kind. FromLines kind)
+
+  module _ (inputs : Inputs) where
+    only_decoded : (k : Lh5801) (o : Code Opcode) (d : Option Listed) → Always EntersOnly (decoded_step_of k inputs o d)
+    unfolding decoded_step_of
+    only_decoded k o (Some l) = always_then EntersOnly (execute_of (with_p k o.p) inputs l.instruction) _ (λ r. tt)
+    only_decoded k o None = tt
+
+    only_instruction : (k : Lh5801) → Always EntersOnly (instruction_of k inputs)
+    unfolding instruction_of
+    only_instruction k = always_then EntersOnly (fetch_of k.p) _ (λ o. only_decoded k o (decoded_by o.value))
+
+    only_interrupt : (k : Lh5801) (i : Interrupt) → Enters m i → Always EntersOnly (interrupt_of k i)
+    unfolding interrupt_of
+    only_interrupt k i e = always_then EntersOnly (accept_of (cleared k i) (vector_address i)) _ (λ r. e)
+
+    enters_only : Always EntersOnly (step_of m inputs)
+    unfolding step_of
+    enters_only = go m.bf refl
+      where
+        go : (b : Bool) → m.bf ≡ b → Always EntersOnly (step_of m inputs)
+        go false b = subst (Always EntersOnly) (sym (cond_false m.bf _ _ b)) tt
+        go true b =
+            subst (Always EntersOnly) (sym (powered_step m inputs b (accepted m) refl))
+            (powered_ways (Always EntersOnly) (reached_of m) inputs (accepted m) (λ i e. only_interrupt (reached_of m) i ((enters_lines i).1 (b, e))) tt tt tt
+            (only_instruction (reached_of m)))
+
+  module _ (pages : Pages) where
+    entry : (i : Interrupt) → Entered i m pages (exec (interrupt_of (asked m (m.ir1 || m.is_timer_reached) false) i) pages)
+    unfolding interrupt_of accept_of push_state_of push_word_of push_of mem16_of read write ◌>>=◌ exec after with_t with_s with_p with_is_halted with_ir0 with_ir1 with_ir2 entered_of
+    entry Ir0 = record { answer = refl; pages_are = refl; accesses = refl }
+    entry Ir1 = record { answer = refl; pages_are = refl; accesses = refl }
+    entry Ir2 = record { answer = refl; pages_are = refl; accesses = refl }
+
+    module _ (inputs : Inputs) where
+      -- what the entry leaves
+      pub enters : (i : Interrupt) → Enters m i → Entered i m pages (exec (step_of m inputs) pages)
+      enters i e =
+          let a = (enters_lines i).0 e in
+          rw (interrupt_step m inputs a.0 i a.1, reached_fields m) (entry i)
+
+      -- a step is an entry of this interrupt, with this record and these states, exactly from such a record and where it is that record and they are 0
+      pub interrupt_kind : (i : Interrupt) (k : Lh5801) (s : ℕ)
+          → ((exec (step_of m inputs) pages).answer ≡ did k s (interrupt i)) ↔ (Enters m i × (k ≡ timer_part_of (entered_of m pages i)) × (s ≡ 0))
+      interrupt_kind i k s = (
+        λ e.
+            let l : Enters m i = did_exec (λ k n kind. FromLines kind) (step_of m inputs) (enters_only inputs) pages k s (interrupt i) e in
+            let same : did (timer_part_of (entered_of m pages i)) 0 (interrupt i) ≡ did k s (interrupt i) = sym (enters i l).answer ∙ e in
+            let record_is : k ≡ timer_part_of (entered_of m pages i) = cc in
+            let states_are : s ≡ 0 = cc in
+            (l, record_is, states_are),
+        λ r. (enters i r.0).answer ∙ sym (ap (λ (l : Lh5801). did l s (interrupt i)) r.1 ∙ ap (λ (n : ℕ). did (timer_part_of (entered_of m pages i)) n (interrupt i)) r.2),
+      )

@@ -3,7 +3,7 @@
  * comparison of its bus log with an analyser's list.
  *
  * "Document 01" is the requirement that the unit is proved against; the numbers below are its own,
- * but for 11 and 12, which are document 02's. "F-1" to "F-5" are requests of document 02, which came
+ * but for 11 and 12, which are document 02's. "F-1" to "F-6" are requests of document 02, which came
  * after it.
  * `rt lib` in crates/lh5801 writes crates/lh5801/out/liblh5801.a for x86-64.
  * Usable from C (C99 and later) and C++.
@@ -53,6 +53,15 @@
  * is not null; nothing is read or written through it. A page longer than 65,536 bytes is answered
  * with 1 or 2, and is not touched.
  *
+ * The interrupts
+ *
+ * A caller asks for an interrupt by a flag of the record, LH5801_IR0, LH5801_IR1 or LH5801_IR2, and
+ * timer reached asks for IR1. With BF set a step enters the first of these that it finds: IR0,
+ * whether IE is set or not (F-6); IR1, with IE set; IR2, with IE set. T is pushed as it is, IE and
+ * the interrupt's own flag are cleared, P is pushed, low byte first, P is read at FFFC for IR0, FFFA
+ * for IR1 or FFF8 for IR2, halted is cleared, no states are added, and the timer part is done. What
+ * else was asked for stays. With BF clear nothing is entered, and every flag stays.
+ *
  * The settings
  *
  *   limit      the greatest number of steps, 1 to 1,000,000
@@ -88,8 +97,8 @@
  *              is not read. It is looked for before every step, the call's first too, so a run may be
  *              cut anywhere, and a call that begins there ends there with no step done. An accepted
  *              interrupt is entered first. What is no instruction does not stop: a halted step waits
- *              or stops with 7, and with BF clear or IR0 set a step is done as ever, whatever P is. To
- *              go on from the address, do one step without it.
+ *              or stops with 7, and with BF clear a step is done as ever, whatever P is. To go on
+ *              from the address, do one step without it.
  *
  * A setting of zero asks for nothing: a struct with its limit and keyboard byte set and zeros
  * elsewhere gives what lh5801_run gives. lh5801_run_with changes nothing in the struct but log_used.
@@ -116,10 +125,10 @@
  *   then in each step
  *     11    there is a log, and fewer than seven of its entries are free, or its used count is
  *           beyond it; whatever the step would have been
- *     7     after interrupts: BF is set, the unit is halted, IR0 is clear, no interrupt is accepted,
- *           and the idle figure is 0
- *     12    an instruction is due (BF is set, IR0 is clear, no interrupt is accepted, not halted), a
- *           stop address is given, and P is that address
+ *     7     after interrupts: BF is set, the unit is halted, no interrupt is accepted, and the idle
+ *           figure is 0
+ *     12    an instruction is due (BF is set, no interrupt is accepted, not halted), a stop address
+ *           is given, and P is that address
  *     5     the opcode read is unlisted
  *     6     the byte after FD is unlisted
  *   and

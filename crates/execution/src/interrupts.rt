@@ -55,12 +55,12 @@ pub fn accepted(cpu: Lh5801) -> Option<Interrupt>
     if cpu.ir0 {
         return Some(Interrupt::Ir0);
     }
-    let enabled = arithmetic::get_flag(cpu.t, arithmetic::IE);
-    if enabled & (cpu.ir1 | cpu.is_timer_reached) {
-        Some(Interrupt::Ir1)
-    } else if enabled & cpu.ir2 {
-        Some(Interrupt::Ir2)
-    } else {
+    let first = cpu.ir1 | cpu.is_timer_reached;
+    if !((first | cpu.ir2) & arithmetic::get_flag(cpu.t, arithmetic::IE)) {
         None
+    } else if first {
+        Some(Interrupt::Ir1)
+    } else {
+        Some(Interrupt::Ir2)
     }
 }

@@ -98,7 +98,8 @@ fn far(random: &mut Random, length: usize) -> u32 {
 /// One vector's byte, one vector or some of them.
 fn around_vectors(random: &mut Random) -> ReadOnly {
     let first = random.pick(&[0xFF00, 0xFFC0, 0xFFF8, 0xFFF9, 0xFFFA, 0xFFFB, 0xFFFC, 0xFFFD]);
-    let end = random.pick(&[first + 1, first + 2, 0xFFFA, 0xFFFC, 0xFFFD, 65_536, 131_072]);
+    let ends = [first + 1, first + 2, 0xFFFA, 0xFFFB, 0xFFFC, 0xFFFD, 65_536, 131_072];
+    let end = random.pick(&ends);
     ReadOnly::new(first, end)
 }
 

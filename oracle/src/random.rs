@@ -292,6 +292,19 @@ pub fn routines(random: &mut Random) -> [(u16, Vec<u8>); 4] {
     [ir2, ir1, ir0, (0xFFF8, vectors)]
 }
 
+/// Makes a page 0 whole, and puts such routines into it.
+fn add_routines(random: &mut Random, page: &mut Vec<u8>) {
+    page.resize(65_536, 0x38);
+    routines(random).iter().for_each(|(at, bytes)| place(page, *at, bytes));
+}
+
+/// Makes a call begin with IR0's entry, often with other requests besides, and with routines for them.
+pub fn enter_ir0(random: &mut Random, call: &mut Call) {
+    request_ir0(random, &mut call.record);
+    call.record.bf = true;
+    add_routines(random, &mut call.pages[0]);
+}
+
 /// A random call with whole pages and the idle figure 0.
 pub fn call(random: &mut Random) -> Call {
     let lengths = [length(random), length(random)];
@@ -303,8 +316,7 @@ pub fn call(random: &mut Random) -> Call {
         place(&mut pages[0], record.p, &code);
     }
     if record.ir0 && random.chance(40) {
-        pages[0].resize(65_536, 0x38);
-        routines(random).iter().for_each(|(at, bytes)| place(&mut pages[0], *at, bytes));
+        add_routines(random, &mut pages[0]);
     }
     for page in &mut pages {
         if random.below(300) == 0 {

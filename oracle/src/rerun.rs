@@ -440,6 +440,7 @@ fn case(random: &mut Random) -> Call {
     match random.below(100) {
         0..=3 => protect::stack_over_vectors(random, &mut call.record),
         4..=23 => near_stores(random, &mut call),
+        24..=35 => random::enter_ir0(random, &mut call),
         _ => {}
     }
     let mut call = random::with_idle(random, call);

@@ -17,9 +17,9 @@ use crate::stop_addresses;
 #[derive(Clone, Copy, Debug, PartialEq, Eq)]
 enum Fault {
     Nothing,
-    /// No entry with IE clear; by a halted unit; by one that would wait; by one that is not halted; where
-    /// IR1 is requested, or IR2, which are taken first; where the stop address is P; at all: the unit
-    /// goes on, stops with 12, or does nothing as long as IR0 is set.
+    /// No entry with IE clear; by a halted unit; by one that would wait; by one that is not halted;
+    /// where IR1, or IR2, is taken first; where P is the stop address; at all. The unit goes on as if
+    /// IR0 were clear, or does nothing as long as it is set, always or with IE clear.
     MaskedByIe,
     OnlyWhenNotHalted,
     AfterWaiting,
@@ -33,8 +33,8 @@ enum Fault {
     /// An entry with BF clear; with less than seven entries free.
     WithBfClear,
     BeforeEleven,
-    /// What it leaves: IR0 set; IR1, IR2 or both cleared; IE set; the unit halted; T cleared; S not moved
-    /// by the push of T.
+    /// What it leaves: IR0 set; IR1 or IR2 cleared; IE set; the unit halted; T cleared; S not moved by
+    /// the push of T.
     RequestStays,
     Ir1IsCleared,
     Ir2IsCleared,

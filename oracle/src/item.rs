@@ -32,8 +32,8 @@ pub struct Item {
     pub sums: [u64; 2],
 }
 
-/// What a call's item is made of: the call, its log's used count or `NO_LOG`, its read-only part, and its
-/// stop address.
+/// What a call's item is made of: the call, its log's used count or `NO_LOG`, its read-only part, and
+/// its stop address.
 #[derive(Clone)]
 pub struct Given {
     pub sparse: Sparse,

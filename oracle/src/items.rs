@@ -358,15 +358,16 @@ mod tests {
     /// The numbers that `README.md` and the head of the program `replay` give: files of the list, items,
     /// calls, files that are turned down; calls with a log, with a read-only part, with both; calls
     /// that end with 11, those of them after completed steps, and calls that end with 12; calls with
-    /// a stop address, those of them with a log, and with a read-only part.
+    /// a stop address, those of them with a log, and with a read-only part; calls that begin with IR0's
+    /// entry, or with 11 in place of it.
     fn hold_numbers(files: usize, counts: &Counts) {
         let ends = counts.numbers.map(|[all, _]| all);
         let refused = ends[8..=10].iter().sum();
-        assert_eq!((files, counts.items), (9, 3440));
-        assert_eq!((counts.items - refused, refused), (3319, 121));
-        assert_eq!((counts.logged, counts.protected, counts.protected_logged), (1244, 192, 95));
-        assert_eq!((ends[11], counts.full_later, ends[12]), (260, 138, 74));
-        assert_eq!(counts.stopping, [155, 77, 45]);
+        assert_eq!((files, counts.items), (10, 3553));
+        assert_eq!((counts.items - refused, refused), (3432, 121));
+        assert_eq!((counts.logged, counts.protected, counts.protected_logged), (1303, 205, 101));
+        assert_eq!((ends[11], counts.full_later, ends[12]), (280, 157, 79));
+        assert_eq!((counts.stopping, counts.entering_ir0), ([163, 81, 45], 295));
     }
 
     /// The line of a file that is turned down, as the oracle's own reader has it.

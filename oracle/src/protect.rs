@@ -106,7 +106,7 @@ fn around_vectors(random: &mut Random) -> ReadOnly {
 /// The end is at the first or below it.
 fn empty(random: &mut Random, target: u32, length: usize) -> ReadOnly {
     let first = if random.chance(60) { target } else { edge(random, length) };
-    let less = random.pick(&[0, 0, 1, 2, first / 2, first]);
+    let less = random.pick(&[0, 0, 0, 1, 2, first / 2, first]);
     ReadOnly::new(first, first.saturating_sub(less))
 }
 

@@ -3,6 +3,7 @@
 #![forbid(unsafe_code)]
 
 use std::fmt;
+use std::mem;
 use std::ops::Range;
 
 /// Greatest length of a lent page.
@@ -206,6 +207,14 @@ pub struct Call {
     /// Absent where no log is lent.
     pub bus_log: Option<BusLog>,
     pub read_only: ReadOnly,
+}
+
+impl Call {
+    /// Goes on from an answer to this call, whose pages and log are taken out of it.
+    pub fn go_on(&mut self, from: &mut Answer) {
+        self.record = from.record;
+        (self.pages, self.bus_log) = (mem::take(&mut from.pages), from.bus_log.take());
+    }
 }
 
 /// The number of a call that is not accepted, 1 to 4, in document 01's order: the harness's own.

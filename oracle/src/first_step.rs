@@ -19,24 +19,14 @@ pub fn call(call: &Call, original: impl FnOnce(&Call) -> Answer) -> Answer {
     if is_refused || !call.record.enters_ir0() {
         return original(call);
     }
-    let mut answer = Model::default().call(&Call { limit: 1, ..call.clone() });
+    let mut next = Call { limit: 1, ..call.clone() };
+    let mut answer = Model::default().call(&next);
     if answer.number == 0 && call.limit > 1 {
-        let next = original(&behind(call, &answer));
-        answer.join(next);
+        next.go_on(&mut answer);
+        next.limit = call.limit - 1;
+        answer.join(original(&next));
     }
     answer
-}
-
-/// The call that goes on from its first step.
-fn behind(call: &Call, first: &Answer) -> Call {
-    Call {
-        record: first.record,
-        inputs: call.inputs,
-        limit: call.limit - 1,
-        pages: first.pages.clone(),
-        bus_log: first.bus_log.clone(),
-        read_only: call.read_only,
-    }
 }
 
 #[cfg(test)]

@@ -86,13 +86,13 @@ fn states() -> impl Iterator<Item = Call> {
 }
 
 /// Read-only parts around the vector and around what the entry pushes, and none.
-fn parts(s: u16) -> [ReadOnly; 10] {
+fn parts(s: u16) -> Vec<ReadOnly> {
     let [s, low, high] = [0, 1, 2].map(|down| u32::from(s.wrapping_sub(down)));
-    let ends = [(0xFFFC, 0xFFFE), (0xFFFC, 0xFFFD), (0xFFFD, 0xFFFE), (0xFFFD, 0xFFFC)];
+    let vector = [(0xFFFC, 0xFFFE), (0xFFFC, 0xFFFD), (0xFFFD, 0xFFFE), (0xFFFD, 0xFFFC)];
     let pushes = [(s, s + 1), (low, low + 1), (high, high + 1)];
     let far = [(0, u32::MAX), (0xFFFF, 65_536), (65_536, 131_072)];
-    let all = [&ends[..], &pushes, &far].concat();
-    std::array::from_fn(|index| ReadOnly::new(all[index].0, all[index].1))
+    let all = vector.into_iter().chain(pushes).chain(far);
+    all.map(|(first, end)| ReadOnly::new(first, end)).collect()
 }
 
 /// S around the vector and both ends of page 0.

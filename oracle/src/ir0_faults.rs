@@ -3,8 +3,6 @@
 
 #![forbid(unsafe_code)]
 
-use std::mem;
-
 use crate::call::{refusal, Answer, BusLog, Call, Record, Side};
 use crate::compare::Comparison;
 use crate::ir0;
@@ -123,8 +121,7 @@ impl Side for Wrong {
         let mut sum = Answer { log: Some(Default::default()), ..Answer::default() };
         while sum.number == 0 && sum.steps < call.limit.into() {
             sum.join(self.step(&next));
-            next.record = sum.record;
-            (next.pages, next.bus_log) = (mem::take(&mut sum.pages), sum.bus_log.take());
+            next.go_on(&mut sum);
         }
         let Call { record, pages, bus_log, .. } = next;
         Answer { record, pages, bus_log, ..sum }

@@ -3,8 +3,6 @@
 
 #![forbid(unsafe_code)]
 
-use std::mem;
-
 use crate::call::{refusal, Access, Answer, BusLog, Call, Record, Side};
 use crate::compare::Comparison;
 use crate::memory::code_at;
@@ -169,8 +167,7 @@ impl Wrong {
             let one = Model::default().call(&next);
             last = Some(last_of(&next, &one));
             sum.join(one);
-            next.record = sum.record;
-            (next.pages, next.bus_log) = (mem::take(&mut sum.pages), sum.bus_log.take());
+            next.go_on(&mut sum);
         }
         if sum.number == 0 && self.fault == InPlaceOfZero && self.is_there(call, &next, last) {
             sum.number = 12;

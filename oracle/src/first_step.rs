@@ -60,9 +60,9 @@ mod tests {
         }
         let log = Original.call(&call).log.unwrap();
         assert_eq!(log.starts, [0, 5, 7, 12, 16, 20]);
-        let entry =
-            [0x0080_02, 0x007F_10, 0x007E_00].map(|entry| Access::of_entry(1 << 25 | entry));
-        assert_eq!(log.step(0)[..3], entry);
+        let pushed = [(0x0080, 0x02), (0x007F, 0x10), (0x007E, 0x00)];
+        let pushed = pushed.map(|(at, byte)| Access::write(at, byte));
+        assert_eq!(log.step(0)[..3], pushed);
         assert_eq!(log.step(0)[3..], [Access::read(0xFFFC, 0x00), Access::read(0xFFFD, 0x50)]);
         // The original reads a vector's low byte first: the step that it makes is not in order yet.
         assert_eq!(log.step(2)[3..], [Access::read(0xFFFB, 0x40), Access::read(0xFFFA, 0x00)]);

@@ -34,9 +34,9 @@ impl Sparse {
 
     /// The call with its whole pages, or what is wrong with the bytes set.
     pub fn call(&self) -> Result<Call, String> {
-        let page = |page: usize| {
-            let offsets = 0..self.lengths[page];
-            offsets.map(|offset| self.filled(page, offset)).collect::<Vec<u8>>()
+        let page = |page: usize| match self.fill {
+            (byte, 0) => vec![byte; self.lengths[page]],
+            _ => (0..self.lengths[page]).map(|offset| self.filled(page, offset)).collect(),
         };
         let mut pages = [page(0), page(1)];
         for (address, bytes) in &self.set {

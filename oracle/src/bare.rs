@@ -90,8 +90,6 @@ pub struct Returned {
 pub trait Watch {
     /// BF is clear.
     fn off(&mut self) {}
-    /// IR0 is set.
-    fn held(&mut self) {}
     /// An interrupt is accepted; by a halted unit it is a wake.
     fn interrupt(&mut self, _halted: bool) {}
     /// The step waits, with this idle figure.
@@ -140,6 +138,8 @@ impl Pc1500 {
     }
 
     /// Document 01's run call. 1 to 7 and 12 are this harness's own. The stop address is the watch's.
+    /// A call that begins with BF and IR0 set is none for this library, and panics: its first step is
+    /// the model's (`first_step.rs` of the program).
     #[inline(never)]
     pub fn original_run<W: Watch>(&mut self, limit: u32, watch: &mut W) -> Returned {
         let lengths = [self.page0.len(), self.page1.len()];
@@ -160,6 +160,9 @@ impl Pc1500 {
     }
 
     /// The stop of the step that begins now, and its byte.
+    ///
+    /// # Panics
+    /// With BF and IR0 set.
     #[inline]
     fn stop<W: Watch>(&self, listed: &Listed, watch: &mut W) -> Option<(u8, u8)> {
         let unit = &self.lh5801;
@@ -167,10 +170,7 @@ impl Pc1500 {
             watch.off();
             return None;
         }
-        if unit.ir0() {
-            watch.held();
-            return None;
-        }
+        assert!(!unit.ir0(), "with IR0 set the original does nothing: its entry is the model's");
         if unit.is_requested() && unit.ie() {
             watch.interrupt(unit.is_halted());
             return None;

@@ -3,6 +3,7 @@
 #![forbid(unsafe_code)]
 
 use std::fmt;
+use std::mem;
 use std::ops::Range;
 
 /// Greatest length of a lent page.
@@ -69,23 +70,27 @@ impl Record {
         self.is_timer_reached = bit(8);
     }
 
-    /// The next step is a halted one, document 02's term: BF set, halted, IR0 clear, no interrupt
-    /// accepted.
+    /// The next step is a halted one, document 02's term: BF set, halted, no interrupt accepted.
     pub fn begins_halted_step(&self) -> bool {
-        self.bf && self.is_halted && !self.ir0 && !self.accepts_interrupt()
+        self.bf && self.is_halted && !self.accepts_interrupt()
     }
 
-    /// The next step executes an instruction, or stops with 5, 6 or 12 in place of it: BF set, IR0
-    /// clear, no interrupt accepted, not halted. The harness's own; the model has another writing
-    /// of it.
+    /// The next step executes an instruction, or stops with 5, 6 or 12 in place of it: BF set, no
+    /// interrupt accepted, not halted. The harness's own; the model has another writing of it.
     pub fn is_instruction_due(&self) -> bool {
-        self.bf && !self.is_halted && !self.ir0 && !self.accepts_interrupt()
+        self.bf && !self.is_halted && !self.accepts_interrupt()
     }
 
-    /// An interrupt is requested, and IE is set. A reached timer counts as IR1.
+    /// The next step is IR0's entry (document 02, F-6): BF and IR0 set. Only 11 comes before it.
+    #[inline]
+    pub fn enters_ir0(&self) -> bool {
+        self.bf && self.ir0
+    }
+
+    /// An interrupt that BF lets in: IR0, or with IE set any other one. A reached timer counts as IR1.
     fn accepts_interrupt(&self) -> bool {
-        let requested = self.is_timer_reached || self.ir1 || self.ir2;
-        requested && self.t & 0x02 != 0
+        let is_requested = self.is_timer_reached || self.ir1 || self.ir2;
+        self.ir0 || is_requested && self.t & 0x02 != 0
     }
 }
 
@@ -204,6 +209,14 @@ pub struct Call {
     pub read_only: ReadOnly,
 }
 
+impl Call {
+    /// Goes on from an answer to this call, whose pages and log are taken out of it.
+    pub fn go_on(&mut self, from: &mut Answer) {
+        self.record = from.record;
+        (self.pages, self.bus_log) = (mem::take(&mut from.pages), from.bus_log.take());
+    }
+}
+
 /// The number of a call that is not accepted, 1 to 4, in document 01's order: the harness's own.
 pub fn refusal(lengths: [usize; 2], tm: u16, limit: u32) -> Option<u8> {
     if lengths[0] > GREATEST_PAGE {
@@ -274,7 +287,7 @@ pub struct Log {
     pub starts: Vec<usize>,
     /// How many accesses belong to completed steps.
     pub completed: usize,
-    /// The places of a vector's two reads: that of the first. The model alone tells them.
+    /// The places of a vector's two reads: that of the first. Only where the model made the step.
     pub vectors: Vec<usize>,
 }
 
@@ -288,6 +301,17 @@ impl Log {
     pub fn step(&self, index: usize) -> &[Access] {
         let end = self.starts.get(index + 1).copied().unwrap_or(self.accesses.len());
         &self.accesses[self.starts[index]..end]
+    }
+
+    /// Puts the log of a call that goes on behind this one, of which every step was completed.
+    pub fn join(&mut self, next: &Log) {
+        let before = self.accesses.len();
+        let behind =
+            |places: &[usize]| places.iter().map(|place| before + place).collect::<Vec<_>>();
+        self.starts.extend(behind(&next.starts));
+        self.vectors.extend(behind(&next.vectors));
+        self.accesses.extend(&next.accesses);
+        self.completed = before + next.completed;
     }
 }
 
@@ -321,6 +345,16 @@ impl Answer {
             bus_log: call.bus_log.clone(),
             ..Answer::default()
         }
+    }
+
+    /// The answer to a call that goes on from this one, which has ended with 0, joined to it.
+    pub fn join(&mut self, next: Answer) {
+        let log = self.log.take().zip(next.log.as_ref()).map(|(mut log, more)| {
+            log.join(more);
+            log
+        });
+        let (steps, states) = (self.steps + next.steps, self.states + next.states);
+        *self = Answer { steps, states, waits: self.waits + next.waits, log, ..next };
     }
 
     /// Document 01's line, without its newline.

@@ -9,6 +9,8 @@ use bare::Returned;
 use crate::call::{Access, Answer, BusLog, Call, Log, Record, Side};
 use crate::drops::Drops;
 use crate::halted;
+use crate::ir0;
+use crate::ir0_counts::Ir0Counts;
 use crate::logs;
 use crate::model::Model;
 use crate::opcodes::table;
@@ -87,10 +89,12 @@ pub fn ordered_original(call: &Call) -> Answer {
 /// The original's `get_mem16` reads the low byte of a vector first; document 01 has the high byte
 /// first. Nothing in the original's log tells a vector's reads from others, so the places come from
 /// the model's marks: exactly the accesses that the model marks as a vector's are exchanged, and
-/// their entries of the bus log with them.
+/// their entries of the bus log with them. Those of a first step that the model has made
+/// (`first_step.rs`) have a mark of their own, and are in order.
 fn order_vectors(original: &mut Answer, call: &Call, model: &Answer) {
     let (Some(log), Some(marked)) = (&mut original.log, &model.log) else { return };
-    for place in &marked.vectors {
+    let own = &log.vectors;
+    for place in marked.vectors.iter().filter(|place| !own.contains(place)) {
         if place + 1 < log.accesses.len() {
             log.accesses.swap(*place, place + 1);
         }
@@ -263,6 +267,7 @@ struct Counts {
     waits: Waits,
     drops: Drops,
     stop_addresses: Stops,
+    ir0: Ir0Counts,
 }
 
 impl Counts {
@@ -278,6 +283,7 @@ impl Counts {
             waits: Waits::default(),
             drops: Drops::default(),
             stop_addresses: Stops::default(),
+            ir0: Ir0Counts::default(),
         }
     }
 
@@ -288,6 +294,7 @@ impl Counts {
         self.logs.add(call, answer);
         self.drops.add(call, answer);
         self.stop_addresses.add(call, answer);
+        self.ir0.add(call, answer);
         if let 5 | 6 = answer.number {
             self.unlisted[usize::from(answer.number - 5)][usize::from(answer.byte)] += 1;
         }
@@ -298,7 +305,7 @@ impl Counts {
     }
 
     /// An instruction begins with a read of its opcode, an interrupt with a write; a step with BF
-    /// clear or IR0 set has no access, and a waiting one has none.
+    /// clear has no access, and a waiting one has none.
     fn add_step(&mut self, step: &[Access]) {
         self.most_accesses = self.most_accesses.max(step.len());
         match step {
@@ -318,7 +325,7 @@ impl Counts {
         let _ =
             writeln!(text, "\ninterrupts accepted: {interrupts}; most accesses in a step: {most}");
         let _ = writeln!(text, "{}\n{}\n{}", self.waits, self.logs, self.drops);
-        let _ = writeln!(text, "{}", self.stop_addresses);
+        let _ = writeln!(text, "{}\n{}", self.stop_addresses, self.ir0);
         for (page, name) in ["first page", "after FD"].into_iter().enumerate() {
             let reached = |counts: &[u64; 256]| counts.iter().filter(|count| **count > 0).count();
             let listed = table()[page].iter().flatten().count();
@@ -338,16 +345,16 @@ impl Counts {
     }
 }
 
-/// In a run of so many calls read-only parts and stop addresses have to have done all that they can
-/// do.
+/// In a run of so many calls read-only parts, stop addresses and IR0 have to have done all that they
+/// can do.
 const MANY: u64 = 5000;
 
-/// Runs the comparison; true where no difference was found, and read-only parts and stop addresses
-/// came as they have to.
+/// Runs the comparison; true where no difference was found, and read-only parts, stop addresses and
+/// IR0 came as they have to.
 pub fn run(calls: u64, seed: u64, side: Box<dyn Side>) -> bool {
     println!("seed {seed}, original against {}", side.name());
     let mut comparison = Comparison::new(side);
-    let directed = [run_halted, run_logs, run_read_only, run_stops];
+    let directed = [run_halted, run_logs, run_read_only, run_stops, run_ir0];
     if !directed.into_iter().all(|run| run(&mut comparison)) {
         return false;
     }
@@ -368,14 +375,18 @@ pub fn run(calls: u64, seed: u64, side: Box<dyn Side>) -> bool {
     progress.wipe();
     print!("{}", counts.report());
     println!("{calls} calls, {} steps, 0 differences", counts.steps);
-    calls < MANY || have_all(&counts.drops, &counts.stop_addresses)
+    calls < MANY || have_all(&counts.drops, &counts.stop_addresses, &counts.ir0)
 }
 
-/// Whether read-only parts and stop addresses have done all that they can do; says where not.
-pub fn have_all(drops: &Drops, stops: &Stops) -> bool {
-    let all = [(drops.have_all(), "read-only parts"), (stops.have_all(), "stop addresses")];
+/// Whether read-only parts, stop addresses and IR0 have done all that they can do; says where not.
+pub fn have_all(drops: &Drops, stops: &Stops, ir0: &Ir0Counts) -> bool {
+    let all = [
+        (drops.have_all(), "the read-only parts"),
+        (stops.have_all(), "the stop addresses"),
+        (ir0.have_all(), "the calls with IR0 set"),
+    ];
     for (_, what) in all.iter().filter(|(done, _)| !done) {
-        println!("the {what} did not do all that they have to");
+        println!("{what} did not do all that they have to");
     }
     all.iter().all(|(done, _)| *done)
 }
@@ -458,6 +469,24 @@ fn run_stops(comparison: &mut Comparison) -> bool {
     let reached = counts.have_all();
     if !reached {
         println!("the directed calls with a stop address do not reach all that they have to");
+    }
+    reached
+}
+
+/// Runs the directed calls with IR0 set; true where no difference was found, and where they met all
+/// that they have to.
+fn run_ir0(comparison: &mut Comparison) -> bool {
+    let mut counts = Ir0Counts::default();
+    for (what, calls) in ir0::groups() {
+        for call in calls {
+            let Some(original) = directed(comparison, call.clone(), what) else { return false };
+            counts.add(&call, &original);
+        }
+    }
+    println!("directed: {counts}");
+    let reached = counts.have_all();
+    if !reached {
+        println!("the directed calls with IR0 set do not reach all that they have to");
     }
     reached
 }

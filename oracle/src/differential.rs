@@ -6,8 +6,9 @@
 //! waits where it is halted. In three of eight starts each call of the port is lent a log, which is
 //! compared with the original's accesses and with the model's log. In half of the starts a part of
 //! page 0 is read-only. Half of the starts have a stop address; after a stop it is often taken away or
-//! another one given, as a host does that steps through a routine. Every session depends on
-//! the seed and its own index only.
+//! another one given, as a host does that steps through a routine. A host sets IR0 too, at a start and
+//! between two calls: the call's first step is the model's then (`first_step.rs`), and the original
+//! goes on from it. Every session depends on the seed and its own index only.
 
 #![forbid(unsafe_code)]
 
@@ -24,6 +25,7 @@ use crate::call::{
 };
 use crate::compare::{self, ends_in_words, have_all, report_smallest, slices, Comparison, Logs};
 use crate::drops::Drops;
+use crate::ir0_counts::Ir0Counts;
 use crate::opcodes::table;
 use crate::port::{self, Port};
 use crate::progress::Progress;
@@ -44,20 +46,22 @@ const SESSION: u64 = 30_000;
 const PARKED: u64 = 40;
 /// A session's kind goes round in so many. Its starts have, by the kind: a log, and half of them a
 /// read-only part; half of them such a part, and no log; all of them such a part, and half a log;
-/// neither. Calls with a log or a read-only part run through the original's own panics and the model
-/// too; the others run on the original without its log.
+/// neither. Calls with a log or a read-only part, or that begin with IR0's entry, run through the
+/// original's own panics and the model too; the others run on the original without its log.
 const KINDS: u64 = 4;
 /// Of a hundred steps that make an access at least so many have a log.
 const LEAST_LOGGED: u64 = 10;
-/// The greatest limit of a call with a log or a read-only part. A call of a greater one has no log;
-/// where a part is read-only there is none but such as is refused.
+/// The greatest limit of a call with a log or a read-only part, or that begins with IR0's entry. A call
+/// of a greater one has no log; of the others there is none but such as is refused.
 const LOGGED_LIMIT: u32 = 20_000;
 /// Of a hundred stops with 12, after so many the stop address is taken away or another one comes.
 const STOPPED: u64 = 75;
 /// A new stop address is looked for in so many steps that come next.
 const AHEAD: u32 = 300;
-/// In a run of so many steps read-only parts and stop addresses have to have done all that they can
-/// do.
+/// Of a hundred changes between two calls, after so many IR0 is set.
+const REQUESTED: u64 = 4;
+/// In a run of so many steps read-only parts, stop addresses and IR0 have to have done all that they
+/// can do.
 const MANY: u64 = 1_000_000;
 
 pub struct Settings {
@@ -76,10 +80,10 @@ struct Counts {
     executed: [[u64; 256]; 2],
     unlisted: [[u64; 256]; 2],
     off: u64,
-    held: u64,
     waits: Waits,
     drops: Drops,
     stop_addresses: Stops,
+    ir0: Ir0Counts,
     /// Where the next run of the original without its log stops.
     stop_address: Option<u16>,
     interrupts: u64,
@@ -103,10 +107,10 @@ impl Counts {
             executed: [[0; 256]; 2],
             unlisted: [[0; 256]; 2],
             off: 0,
-            held: 0,
             waits: Waits::default(),
             drops: Drops::default(),
             stop_addresses: Stops::default(),
+            ir0: Ir0Counts::default(),
             stop_address: None,
             interrupts: 0,
             wakes: 0,
@@ -137,11 +141,7 @@ impl Counts {
         let Some(log) = &answer.log else { return };
         self.waits.add(call.inputs.idle, answer.waits);
         let quiet = self.watch_accesses(call.record.is_halted, log, answer.steps as usize);
-        // Nothing inside the unit ends BF clear or IR0 set, so these are a call's last steps.
-        match answer.record.bf {
-            true => self.held += quiet - answer.waits,
-            false => self.off += quiet - answer.waits,
-        }
+        self.off += quiet - answer.waits;
     }
 
     /// Counts entries and executed bytes; tells how many steps had no access.
@@ -168,10 +168,9 @@ impl Counts {
         step[1].byte() == 0xB1
     }
 
-    /// Steps that are neither with BF clear, nor with IR0 set, nor waiting: an instruction or an
-    /// interrupt.
+    /// Steps that are neither with BF clear nor waiting: an instruction or an interrupt.
     fn busy(&self) -> u64 {
-        self.steps - self.off - self.held - self.waits.total()
+        self.steps - self.off - self.waits.total()
     }
 
     fn join(&mut self, other: &Counts) {
@@ -182,10 +181,10 @@ impl Counts {
         self.steps += other.steps;
         self.logs.join(&other.logs);
         self.off += other.off;
-        self.held += other.held;
         self.waits.join(&other.waits);
         self.drops.join(&other.drops);
         self.stop_addresses.join(&other.stop_addresses);
+        self.ir0.join(&other.ir0);
         self.interrupts += other.interrupts;
         self.wakes += other.wakes;
         self.code_edges += other.code_edges;
@@ -218,10 +217,10 @@ impl Counts {
             "  compared with the original's accesses, in runs through its panics, and the model"
         );
         println!("{}", self.drops);
-        println!("{}", self.stop_addresses);
+        println!("{}\n{}", self.stop_addresses, self.ir0);
         println!(
-            "steps with an interrupt {} (of a halted unit {}), with BF clear {}, with IR0 set {}",
-            self.interrupts, self.wakes, self.off, self.held
+            "steps with an interrupt {} (of a halted unit {}), with BF clear {}",
+            self.interrupts, self.wakes, self.off
         );
         println!("{}", self.waits);
         for (page, [empty, whole, between]) in self.lengths.iter().enumerate() {
@@ -255,9 +254,6 @@ fn at_edge(address: u16, length: usize) -> bool {
 impl Watch for Counts {
     fn off(&mut self) {
         self.off += 1;
-    }
-    fn held(&mut self) {
-        self.held += 1;
     }
     fn interrupt(&mut self, halted: bool) {
         self.interrupts += 1;
@@ -366,11 +362,20 @@ impl Session<'_> {
                 3 => code.splice(0..0, [0xFD, 0x4C]).for_each(drop),
                 _ => {}
             }
-            random::place(&mut self.pages[0], p, &code);
-            random::place(&mut self.machine.page0, p, &code);
+            self.place(p, &code);
+        }
+        if self.record.ir0 && self.random.chance(40) {
+            let routines = random::routines(&mut self.random);
+            routines.iter().for_each(|(at, bytes)| self.place(*at, bytes));
         }
         self.new_read_only();
         self.new_stop();
+    }
+
+    /// Puts code into page 0 on both sides.
+    fn place(&mut self, at: u16, code: &[u8]) {
+        random::place(&mut self.pages[0], at, code);
+        random::place(&mut self.machine.page0, at, code);
     }
 
     /// Another stop address, or none.
@@ -442,7 +447,7 @@ impl Session<'_> {
             true => 1 + self.random.below(40) as u32,
             false => limit(&mut self.random),
         };
-        let limit = match self.read_only == ReadOnly::default() || limit > GREATEST_LIMIT {
+        let limit = match self.is_bare() || limit > GREATEST_LIMIT {
             true => limit,
             false => limit.min(LOGGED_LIMIT),
         };
@@ -456,10 +461,15 @@ impl Session<'_> {
         Ok(matches!(returned.number, 0 | 11 | 12))
     }
 
-    /// A call of this limit has a log or a read-only part.
+    /// The original without its log can make the next call's steps: nothing is read-only, and it does
+    /// not begin with IR0's entry.
+    fn is_bare(&self) -> bool {
+        self.read_only == ReadOnly::default() && !self.record.enters_ir0()
+    }
+
+    /// A call of this limit has a log or a read-only part, or begins with IR0's entry.
     fn is_whole(&self, limit: u32) -> bool {
-        let has_more = self.bus_log.is_some() || self.read_only != ReadOnly::default();
-        has_more && limit <= LOGGED_LIMIT
+        (self.bus_log.is_some() || !self.is_bare()) && limit <= LOGGED_LIMIT
     }
 
     /// The call that comes next, with the port's pages, the start's idle figure and stop address and,
@@ -504,8 +514,9 @@ impl Session<'_> {
             .map_or(Ok(()), Err)
     }
 
-    /// Runs a call with a log or a read-only part on the original with its panics, the model and the
-    /// port, and then, where nothing is read-only, as many steps on the original without its log.
+    /// Runs a call with a log or a read-only part, or that begins with IR0's entry, on the original with
+    /// its panics, the model and the port, and then, where that can be, as many steps on the original
+    /// without its log.
     fn compare_whole(&mut self, limit: u32) -> Result<Returned, String> {
         let call = self.take_call(limit);
         let (original, mut port, difference) = self.comparison.both(&call);
@@ -513,15 +524,16 @@ impl Session<'_> {
             return Err(how);
         }
         self.pages = mem::take(&mut port.pages);
-        match call.read_only == ReadOnly::default() {
+        match self.is_bare() {
             true => self.follow_bare(limit, &port)?,
-            false => self.follow_read_only(&call, &original),
+            false => self.take_over(&call, &original),
         }
         let Answer { number, byte, steps, states, .. } = original;
         let returned = Returned { number, byte, steps, states };
         self.counts.call(&self.record, &returned, self.lengths);
         self.counts.logs.add(&call, &original);
         self.counts.stop_addresses.add(&call, &original);
+        self.counts.ir0.add(&call, &original);
         self.bus_log = port.bus_log;
         Ok(returned)
     }
@@ -537,8 +549,9 @@ impl Session<'_> {
             .map_err(|how| format!("the original without and with its panics: {how}"))
     }
 
-    /// The original without its log knows no read-only part: it is given what came out.
-    fn follow_read_only(&mut self, call: &Call, original: &Answer) {
+    /// The original without its log knows no read-only part and does not enter IR0: it is given what
+    /// came out.
+    fn take_over(&mut self, call: &Call, original: &Answer) {
         self.machine.begin(&original.record, self.inputs);
         self.machine.page0.clone_from(&original.pages[0]);
         self.machine.page1.clone_from(&original.pages[1]);
@@ -557,12 +570,12 @@ impl Session<'_> {
         self.inputs.idle != 0 && self.record.begins_halted_step()
     }
 
-    /// Nothing is executed, and nothing inside the unit will ever end that: BF clear, IR0 set, or
-    /// parked with IE clear or with a timer that does not run.
+    /// Nothing is executed, and nothing inside the unit will ever end that: BF clear, or parked with IE
+    /// clear or with a timer that does not run.
     fn is_quiet(&self) -> bool {
         let r = &self.record;
         let sleeps_on = r.t & 0x02 == 0 || r.tm == 0;
-        !r.bf || r.ir0 || self.is_parked() && sleeps_on
+        !r.bf || self.is_parked() && sleeps_on
     }
 
     /// The next step stops with 12.
@@ -575,12 +588,15 @@ impl Session<'_> {
     fn change(&mut self) {
         self.empty_log();
         if self.is_quiet() && self.random.chance(60) {
-            // A parked unit goes on. One that is off or held may be halted besides, and stays so.
+            // A parked unit goes on. One that is off may be halted besides, and stays so.
             self.record.is_halted &= !self.is_parked();
-            (self.record.bf, self.record.ir0) = (true, false);
+            self.record.bf = true;
         }
         if self.random.chance(25) {
             random::change(&mut self.random, &mut self.record, self.lengths);
+        }
+        if self.random.chance(REQUESTED) {
+            random::request_ir0(&mut self.random, &mut self.record);
         }
         if self.random.chance(5) {
             self.new_read_only();
@@ -683,7 +699,7 @@ fn run_threads(settings: &Settings) -> (Counts, Option<Found>) {
 }
 
 /// Runs the differential; true where nothing differs, every opcode, every idle figure and logs came
-/// often enough, and read-only parts and stop addresses did all that they have to.
+/// often enough, and read-only parts, stop addresses and IR0 did all that they have to.
 pub fn run(settings: &Settings) -> bool {
     let Settings { steps, seed, threads } = settings;
     println!("seed {seed}, {threads} threads, original against port");
@@ -710,7 +726,7 @@ fn share(least: u64, steps: u64) -> u64 {
 }
 
 /// Whether every opcode was executed, every idle figure waited with, and steps made with a log, as
-/// often as it has to be, and whether read-only parts and stop addresses did all that they can do.
+/// often as it has to be, and whether read-only parts, stop addresses and IR0 did all that they can do.
 fn came_often_enough(counts: &Counts, steps: u64) -> bool {
     let least = share(LEAST, steps);
     let rarest = (0..2).map(|page| counts.rarest(page).1).min().unwrap_or(0);
@@ -727,7 +743,7 @@ fn came_often_enough(counts: &Counts, steps: u64) -> bool {
     if logged < least_logged {
         println!("{logged} steps with an access had a log only, less than {least_logged}");
     }
-    let all = steps < MANY || have_all(&counts.drops, &counts.stop_addresses);
+    let all = steps < MANY || have_all(&counts.drops, &counts.stop_addresses, &counts.ir0);
     rarest >= least && waits >= least_waits && logged >= least_logged && all
 }
 

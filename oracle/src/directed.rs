@@ -9,6 +9,17 @@ use crate::opcodes::{table, Kind};
 /// BF set, nothing else.
 pub const ON: u16 = 0x008;
 
+/// Timer states and previous: a difference of 41, 42 and 84, of -1, and at the wrap.
+pub const DIFFERENCES: [(u64, u64); 7] = [
+    (41, 0),
+    (42, 0),
+    (84, 0),
+    (5, 6),
+    (0, u64::MAX - 40),
+    (0, u64::MAX - 41),
+    (u64::MAX, u64::MAX - 42),
+];
+
 /// A record with these flags and zeros.
 pub fn flagged(flags: u16) -> Record {
     let mut record = Record::default();
@@ -145,20 +156,14 @@ fn page_lengths() -> Vec<Sparse> {
     lengths.into_iter().map(call).collect()
 }
 
-/// With IR0 set a step has no states, so the difference is exactly the given one.
+/// An entry has no states, so the difference is exactly the given one: the entry of IR0, and that of
+/// IR1.
 fn differences() -> Vec<Sparse> {
-    let pairs = [
-        (41, 0),
-        (42, 0),
-        (84, 0),
-        (5, 6),
-        (0, u64::MAX - 40),
-        (0, u64::MAX - 41),
-        (u64::MAX, u64::MAX - 42),
-    ];
-    let held = pairs.map(|(timer_state, step_previous_state)| {
-        let record = Record { tm: 0x1FE, timer_state, step_previous_state, ..flagged(ON + 0x20) };
-        code(record, 2, &[])
+    let entries = DIFFERENCES.into_iter().flat_map(|(timer_state, step_previous_state)| {
+        [(0x020, 0x00), (0x040, 0x02)].map(|(request, t)| {
+            let record = Record { t, tm: 0x1FE, timer_state, ..flagged(ON + request) };
+            code(Record { step_previous_state, ..record }, 2, &[])
+        })
     });
     // A NOP of 5 states ends at a difference of 41 and 42; CDV never shifts; BF clear never shifts.
     let running = [(36, ON, [0x38, 0x38]), (37, ON, [0x38, 0x38]), (60, ON, [0xFD, 0x8E])];
@@ -166,7 +171,7 @@ fn differences() -> Vec<Sparse> {
     let run = running.into_iter().chain(off).map(|(timer_state, flags, bytes)| {
         code(Record { tm: 0x155, timer_state, ..flagged(flags) }, 1, &bytes)
     });
-    held.into_iter().chain(run).collect()
+    entries.chain(run).collect()
 }
 
 /// Interrupts, BF clear, OFF, HLT, and AM in a step that shifts.

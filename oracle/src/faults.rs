@@ -15,7 +15,7 @@ enum Fault {
     Nothing,
     /// 11 is not looked for before such a step.
     UncheckedWithBfClear,
-    UncheckedWhileHeld,
+    UncheckedBeforeIr0,
     UncheckedWhileWaiting,
     /// 11 comes after 5, 6 and 7; or where the log is full after the last step.
     CheckedAfterOtherStops,
@@ -58,7 +58,7 @@ use Fault::*;
 
 const FAULTS: [Fault; 28] = [
     UncheckedWithBfClear,
-    UncheckedWhileHeld,
+    UncheckedBeforeIr0,
     UncheckedWhileWaiting,
     CheckedAfterOtherStops,
     CheckedAfterTheLastStep,
@@ -154,7 +154,7 @@ impl Wrong {
         let (length, accesses) = (log.entries.len(), accesses(one).len());
         match self.0 {
             UncheckedWithBfClear if !record.bf => false,
-            UncheckedWhileHeld if record.bf && record.ir0 => false,
+            UncheckedBeforeIr0 if record.enters_ir0() => false,
             UncheckedWhileWaiting if record.begins_halted_step() && one.number == 0 => false,
             CheckedAfterOtherStops if one.number != 0 => false,
             OwnAccessesAreEnough => log.used > length || log.free() < accesses,

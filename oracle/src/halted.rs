@@ -44,6 +44,7 @@ mod tests {
     use super::{call, calls};
     use crate::call::{Answer, Call, Inputs, Record, Side};
     use crate::compare::difference;
+    use crate::first_step;
     use crate::model::Model;
     use crate::original::Original;
     #[cfg(feature = "port")]
@@ -58,13 +59,17 @@ mod tests {
         }
 
         fn call(&mut self, call: &Call) -> Answer {
-            let mut machine = bare::Pc1500::new(&call.record, call.inputs, call.pages.clone());
-            let bare::Returned { number, byte, steps, states } =
-                machine.original_run(call.limit, &mut ());
-            let record = machine.lh5801.record();
-            let pages = [machine.page0, machine.page1];
-            Answer { number, byte, steps, states, record, pages, ..Answer::default() }
+            first_step::call(call, run_bare)
         }
+    }
+
+    fn run_bare(call: &Call) -> Answer {
+        let mut machine = bare::Pc1500::new(&call.record, call.inputs, call.pages.clone());
+        let bare::Returned { number, byte, steps, states } =
+            machine.original_run(call.limit, &mut ());
+        let record = machine.lh5801.record();
+        let pages = [machine.page0, machine.page1];
+        Answer { number, byte, steps, states, record, pages, ..Answer::default() }
     }
 
     fn sides() -> Vec<Box<dyn Side>> {
@@ -194,11 +199,11 @@ mod tests {
 
     /// No states, and reached moves; IE set or clear.
     #[test]
-    fn ir0_is_a_held_step_and_no_wait() {
+    fn ir0_is_an_entry_and_no_wait() {
         for (t, idle) in [(0x00, 0), (0x02, 0), (0x00, 42), (0x02, 255)] {
             let given = Record { ir0: true, is_timer_reached: true, t, ..parked() };
-            let held = Record { is_timer_reached: false, ir1: true, ..given };
-            hold(given, idle, (0, 1, 0, held), 0);
+            let after = Record { ir0: false, ir1: true, ..entered(given) };
+            hold(given, idle, (0, 1, 0, after), 5);
         }
     }
 

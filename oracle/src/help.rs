@@ -47,7 +47,8 @@ no log, no read-only part and no stop address: the figure is 0.
                 the feature `port`
 --trace         before the line, the accesses of the completed steps, one a line, such as `R 0004 27`
                 and `W 7FFF 12`; page 1 has five digits, `R 10004 FF`. They are the side's bus log; the
-                original's vector reads are put in document 01's order, so that the three are alike
+                original's vector reads are put in document 01's order, so that the three are alike. The
+                entry of IR0 is the model's where the original runs the file
 --stop ADDRESS  the run ends with 12 before an instruction at this address, of one to four hexadecimal
                 digits; without it there is no stop address
 ";
@@ -65,11 +66,12 @@ state of the flags that decide about a step; then logs, with every listed opcode
 stack over the vectors, ends of pages, lists of every length from 0 to 30, and 11 beside every
 other end; then read-only parts, with their edges around every write, pushes, entries and vectors
 under the stack, ends above page 0 and empty parts; then stop addresses, with every opcode at them
-and before them, every kind of step there, entries and what they come to. Beside each call with a
-stop address the call without it is made, which has to be the same up to the stop. Prints what was
-reached. At a difference it prints the smallest failing input it finds and ends with status 1, and
-so it does where, in 5,000 calls or more, read-only parts or stop addresses did not do all that
-they can.
+and before them, every kind of step there, entries and what they come to; then IR0, with every state
+of a step, the stack around its vector, and IR1 and IR2 behind it. Beside each call with a stop
+address the call without it is made, which has to be the same up to the stop. A first step with BF
+and IR0 set is the model's, and the original goes on from it. Prints what was reached. At a
+difference it prints the smallest failing input it finds and ends with status 1, and so it does where,
+in 5,000 calls or more, read-only parts, stop addresses or IR0 did not do all that they can.
 
 --seed S      the seed, a decimal number; 1 without it
 --side NAME   the other side, model or port; model without it. port wants the feature `port`
@@ -78,18 +80,19 @@ they can.
 pub const DIFFERENTIAL_HELP: &str = "\
 oracle differential [--steps N] [--seed S] [--threads T]
 
-Runs at least N steps of random programs on the original and on the port, and compares number,
-byte, steps, states, end record and both pages after every call. In three of eight starts the port
-is lent a log, which is handed on from call to call and emptied where it is full, and the log has
-to equal the original's accesses and the model's log. In half of the starts a part of page 0 is
-read-only, and half of them have a stop address, which often changes after a stop. Calls with a log
-or a read-only part run on the original through its own panics, and on the model too. Idle
-figures are 0 in about half of the sessions' starts, else any. Prints what was reached; an opcode
-that was executed less than 10,000 times (N / 10,000 times where that is less), an idle figure of 1
-to 255 with less than 100 waiting steps (N / 1,000,000), less than N / 10 steps with an access and
-a log, or, with N from 1,000,000 on, read-only parts or stop addresses that did not do all they can
-end with status 1. At a difference it prints the smallest failing input it finds and ends with
-status 1. It wants the feature `port`.
+Runs at least N steps of random programs on the original and on the port, and compares number, byte,
+steps, states, end record and both pages after every call. In three of eight starts the port is lent a
+log, which is handed on from call to call and emptied where it is full, and the log has to equal the
+original's accesses and the model's log. In half of the starts a part of page 0 is read-only, and half
+of them have a stop address, which often changes after a stop. IR0 is often set, at a start and
+between two calls; the first step is the model's then, and the original goes on from it. Calls with a
+log or a read-only part, or with such a first step, run on the original through its own panics, and on
+the model too. Idle figures are 0 in about half of the sessions' starts, else any. Prints what was
+reached; an opcode that was executed less than 10,000 times (N / 10,000 times where that is less), an
+idle figure of 1 to 255 with less than 100 waiting steps (N / 1,000,000), less than N / 10 steps with
+an access and a log, or, with N from 1,000,000 on, read-only parts, stop addresses or IR0 that did not
+do all they can end with status 1. At a difference it prints the smallest failing input it finds and
+ends with status 1. It wants the feature `port`.
 
 --steps N     steps that execute an instruction or accept an interrupt; 100,000,000 without it
 --seed S      the seed, a decimal number; 1 without it
@@ -99,18 +102,19 @@ status 1. It wants the feature `port`.
 pub const RERUN_HELP: &str = "\
 oracle rerun N [--seed S]
 
-Runs N random runs through the port, each twice: cut into a list of calls on the given pages, and
-cut into another list on pages where every byte has another value that the run does not read before
-it has stored a write there. Compares the final stop and its byte, the end record, the sums of
-steps and states, and both pages: a written byte is what was last written, every other byte its
-own. What is read first and what is written comes from the original's log. Both lists have the same
-idle figure and, in half of the runs, the same read-only part: what is dropped there leaves its
-byte unwritten, and after every call each side's bytes in it have to be what they were. In half of
-the runs both have the same stop address, and the run is made without it too. In half of the runs
-both are lent a bus log, with equally many free entries and otherwise different, and hand on its
-used count: the lists and counts at the end are compared. At a difference it prints the smallest
-failing input it finds and ends with status 1, and so it does where, in 2,000 runs or more, read-only
-parts or stop addresses did not do all that they can. It wants the feature `port`.
+Runs N random runs through the port, each twice: cut into a list of calls on the given pages, and cut
+into another list on pages where every byte has another value that the run does not read before it has
+stored a write there. Compares the final stop and its byte, the end record, the sums of steps and
+states, and both pages: a written byte is what was last written, every other byte its own. What is
+read first and what is written comes from the original's log. Both lists have the same idle figure
+and, in half of the runs, the same read-only part: what is dropped there leaves its byte unwritten,
+and after every call each side's bytes in it have to be what they were. In half of the runs both have
+the same stop address, and the run is made without it too. Where a run begins with IR0's entry, that
+step is the model's. In half of the runs both are lent a bus log, with equally many free entries and
+otherwise different, and hand on its used count: the lists and counts at the end are compared. At a
+difference it prints the smallest failing input it finds and ends with status 1, and so it does where,
+in 2,000 runs or more, read-only parts, stop addresses or IR0 did not do all that they can. It wants
+the feature `port`.
 
 --seed S   the seed, a decimal number; 1 without it
 ";
@@ -187,12 +191,12 @@ the repository, which a test compares with what is made, is that of
   oracle items 1500 --seed 7 --out ../crates/replay/data
 
 Its items are the calls of `oracle list N`, every third random one with a log, then directed calls
-with a log, then directed calls with a read-only part and such with a stop address, half of them
-with a log, each with the original's answer (its vector reads in document 01's order; stops 1 to 4,
-7, 11 and 12 are the oracle's own), then files that are turned down, with the oracle's own line. A
-log has 64 entries and a used count from 0 to 57, with room for a step, or of 58, 63, 64, 65 or
-1,000. Prints how many items there are, by the number of their line, and what the read-only parts
-and the stop addresses did.
+with a log, then directed calls with a read-only part, with a stop address and with IR0 set, half of
+them with a log, each with the original's answer (its vector reads in document 01's order; stops 1 to
+4, 7, 11 and 12 are the oracle's own, and IR0's entry is the model's), then files that are turned
+down, with the oracle's own line. A log has 64 entries and a used count from 0 to 57, with room for a
+step, or of 58, 63, 64, 65 or 1,000. Prints how many items there are, by the number of their line, and
+what the read-only parts, the stop addresses and the calls with IR0 set did.
 
 --seed S    the seed, a decimal number; 1 without it
 --out DIR   the folder, which has to be there, and may not hold a file of a longer list
@@ -223,8 +227,8 @@ oracle once (original|bare|port) FILE [--log]
 
 Runs a campaign file exactly once, with the idle figure 0, and prints document 01's line: under a run
 call of the original, as bare steps of the original (no stop is looked for), or by the port, which
-wants the feature `port`; with --log the port is lent a log with room for every step. For counts of
-instructions from outside:
+wants the feature `port`; with --log the port is lent a log with room for every step. A file that
+begins with BF and IR0 set is the port's alone. For counts of instructions from outside:
 
   valgrind --tool=callgrind --toggle-collect=lh5801_call oracle once port FILE
   valgrind --tool=callgrind '--toggle-collect=*bare_steps*' oracle once bare FILE
@@ -245,7 +249,7 @@ oracle list --check FILE [--side original|model|port]
 
 Writes a list of the original's answers: the directed calls, then N random ones, one call a line;
 the file's head tells the format. Their idle figure is 0, and they have no log, no read-only part and
-no stop address.
+no stop address. A first step with BF and IR0 set is the model's.
 Or reads such a list and compares every answer with a side's; a difference ends with status 1.
 
 --seed S       the seed, a decimal number; 1 without it

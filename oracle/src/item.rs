@@ -32,6 +32,29 @@ pub struct Item {
     pub sums: [u64; 2],
 }
 
+/// What a call's item is made of: the call, its log's used count or `NO_LOG`, its read-only part, and
+/// its stop address.
+#[derive(Clone)]
+pub struct Given {
+    pub sparse: Sparse,
+    pub used: u16,
+    pub read_only: ReadOnly,
+    pub stop_address: Option<u16>,
+}
+
+impl Given {
+    /// A call of which nothing is read-only, without a stop address.
+    pub fn new((sparse, used): (Sparse, u16)) -> Given {
+        Given { sparse, used, read_only: ReadOnly::default(), stop_address: None }
+    }
+
+    pub fn call(&self) -> Result<Call, String> {
+        let call = self.sparse.call()?;
+        let inputs = Inputs { stop_address: self.stop_address, ..call.inputs };
+        Ok(Call { inputs, bus_log: bus_log(self.used), read_only: self.read_only, ..call })
+    }
+}
+
 /// The log that an item with this used count lends.
 pub fn bus_log(used: u16) -> Option<BusLog> {
     let log = BusLog { entries: vec![UNUSED; ENTRIES], used: used.into() };

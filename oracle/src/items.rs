@@ -6,12 +6,14 @@
 use std::fs;
 use std::path::Path;
 
-use crate::call::{Answer, Call, Inputs, ReadOnly, Record};
+use crate::call::{Answer, Call, ReadOnly, Record};
 use crate::campaign::{self, number, GREATEST, WORKED};
 use crate::compare::ordered_original;
 use crate::directed::{self, code, flagged, ON};
 use crate::drops::Drops;
-use crate::item::{bus_log, sums, Item, NO_LOG};
+use crate::ir0;
+use crate::ir0_counts::Ir0Counts;
+use crate::item::{sums, Given, Item, NO_LOG};
 use crate::list::{self, Sparse};
 use crate::progress::Progress;
 use crate::random::Random;
@@ -23,28 +25,6 @@ use crate::stops;
 const GREATEST_FILE: usize = 65_536;
 /// How many files with random bytes changed are turned down.
 const CHANGED: usize = 56;
-
-/// A call, its log's used count or `NO_LOG`, its read-only part, and its stop address.
-#[derive(Clone)]
-struct Given {
-    sparse: Sparse,
-    used: u16,
-    read_only: ReadOnly,
-    stop_address: Option<u16>,
-}
-
-impl Given {
-    /// A call of which nothing is read-only, without a stop address.
-    fn new((sparse, used): (Sparse, u16)) -> Given {
-        Given { sparse, used, read_only: ReadOnly::default(), stop_address: None }
-    }
-
-    fn call(&self) -> Result<Call, String> {
-        let call = self.sparse.call()?;
-        let inputs = Inputs { stop_address: self.stop_address, ..call.inputs };
-        Ok(Call { inputs, bus_log: bus_log(self.used), read_only: self.read_only, ..call })
-    }
-}
 
 /// Used counts up to the end of the list of 64 and beyond it: 57 leaves seven entries, 58 six.
 const USED: [u16; 11] = [0, 1, 50, 55, 56, 57, 58, 63, 64, 65, 1000];
@@ -74,8 +54,8 @@ fn listed(calls: u64, seed: u64) -> Vec<Given> {
 }
 
 /// Short runs of every kind, for logs of every used count. Steps of one access; of seven; of two and
-/// three with writes; with BF clear; held; an entry; a vector; 5, 6 and 7 at once and after steps;
-/// and 1 to 4.
+/// three with writes; with BF clear; the entry of IR0, of IR1; a vector; 5, 6 and 7 at once and after
+/// steps; and 1 to 4.
 fn courses() -> Vec<Sparse> {
     let (x, s, t) = (0x0010, 0x0011, 0x02);
     let on = flagged(ON);
@@ -86,7 +66,7 @@ fn courses() -> Vec<Sparse> {
         code(Record { x, ..on }, 5, &seven),
         code(Record { a: 0x5A, x, s, ..on }, 5, &[0x0E, 0xFD, 0xC8, 0x15, 0x41, 0x9E, 0x06]),
         code(Record::default(), 5, &[0x38]),
-        code(flagged(ON + 0x20), 5, &[0x38]),
+        code(Record { ir0: true, s, p: 0xABCD, ..on }, 2, &[0x38]),
         code(Record { ir1: true, t, s, p: 0xABCD, ..on }, 2, &[0x38]),
         code(Record { s, ..on }, 2, &[0xCD, 0xC0]),
         code(on, 5, &[0x31]),
@@ -230,6 +210,10 @@ pub struct Counts {
     /// What the stop addresses did; the calls with one that have a log, and a read-only part.
     pub stops: Stops,
     pub stopping: [u64; 3],
+    /// What the calls with IR0 set have met, and how many of them begin with its entry or with 11 in
+    /// place of it.
+    pub ir0: Ir0Counts,
+    pub entering_ir0: u64,
 }
 
 impl Counts {
@@ -238,6 +222,8 @@ impl Counts {
         self.add(given.used, answer);
         self.drops.add(call, answer);
         self.stops.add(call, answer);
+        self.ir0.add(call, answer);
+        self.entering_ir0 += u64::from(call.record.enters_ir0() && !matches!(answer.number, 1..=4));
         let (is_logged, is_protected) =
             (call.bus_log.is_some(), call.read_only != ReadOnly::default());
         self.protected += u64::from(is_protected);
@@ -270,6 +256,7 @@ impl Counts {
         println!("{}; {} of these calls have a log", self.drops, self.protected_logged);
         let [_, logged, protected] = self.stopping;
         println!("{}; {logged} have a log, {protected} a read-only part", self.stops);
+        println!("{}; {} of them with BF set", self.ir0, self.entering_ir0);
     }
 }
 
@@ -277,7 +264,7 @@ impl Counts {
 fn items(calls: u64, seed: u64) -> Result<(Vec<Item>, Counts), String> {
     let mut counts = Counts::default();
     let mut items = vec![];
-    let given = [listed(calls, seed), logged(), protected(), stopping()].concat();
+    let given = [listed(calls, seed), logged(), protected(), stopping(), ir0::short()].concat();
     let mut progress = Progress::new("call", given.len() as u64);
     for (index, given) in given.iter().enumerate() {
         let call = given.call()?;
@@ -371,15 +358,16 @@ mod tests {
     /// The numbers that `README.md` and the head of the program `replay` give: files of the list, items,
     /// calls, files that are turned down; calls with a log, with a read-only part, with both; calls
     /// that end with 11, those of them after completed steps, and calls that end with 12; calls with
-    /// a stop address, those of them with a log, and with a read-only part.
+    /// a stop address, those of them with a log, and with a read-only part; calls that begin with IR0's
+    /// entry, or with 11 in place of it.
     fn hold_numbers(files: usize, counts: &Counts) {
         let ends = counts.numbers.map(|[all, _]| all);
         let refused = ends[8..=10].iter().sum();
-        assert_eq!((files, counts.items), (9, 3440));
-        assert_eq!((counts.items - refused, refused), (3319, 121));
-        assert_eq!((counts.logged, counts.protected, counts.protected_logged), (1244, 192, 95));
-        assert_eq!((ends[11], counts.full_later, ends[12]), (260, 138, 74));
-        assert_eq!(counts.stopping, [155, 77, 45]);
+        assert_eq!((files, counts.items), (10, 3553));
+        assert_eq!((counts.items - refused, refused), (3432, 121));
+        assert_eq!((counts.logged, counts.protected, counts.protected_logged), (1303, 205, 101));
+        assert_eq!((ends[11], counts.full_later, ends[12]), (280, 157, 79));
+        assert_eq!((counts.stopping, counts.entering_ir0), ([163, 81, 45], 295));
     }
 
     /// The line of a file that is turned down, as the oracle's own reader has it.

@@ -34,9 +34,9 @@ impl Sparse {
 
     /// The call with its whole pages, or what is wrong with the bytes set.
     pub fn call(&self) -> Result<Call, String> {
-        let page = |page: usize| {
-            let offsets = 0..self.lengths[page];
-            offsets.map(|offset| self.filled(page, offset)).collect::<Vec<u8>>()
+        let page = |page: usize| match self.fill {
+            (byte, 0) => vec![byte; self.lengths[page]],
+            _ => (0..self.lengths[page]).map(|offset| self.filled(page, offset)).collect(),
         };
         let mut pages = [page(0), page(1)];
         for (address, bytes) in &self.set {
@@ -193,7 +193,8 @@ pub fn parse_line(line: &str) -> Result<(Sparse, Expected), String> {
 
 const FORMAT: &str = "\
 # Answers of the original lh5801.rs (release build, no overflow checks) to fixed calls, and of the
-# harness around it: stops 1 to 4 and 7 are the harness's own.
+# harness around it: stops 1 to 4 and 7 are the harness's own, and IR0's entry, a call's first step
+# with BF and IR0 set, is that of a model.
 # Lines that begin with # are comments. Every other line is one call, in four parts with | between:
 #   A T X Y U S P TM flags timer previous ticks keyboard limit length0 length1 first step
 #   | address=bytes ... | number byte steps states A T X Y U S P TM flags timer previous ticks

@@ -170,8 +170,8 @@ struct Course {
     code: &'static [u8],
 }
 
-/// Steps of one access; of seven; of three and two with writes; with BF clear; held; waiting; an
-/// entry and what its vector finds.
+/// Steps of one access; of seven; of three and two with writes; with BF clear; waiting; the entry of
+/// IR0, that of IR1, and what their vectors find.
 fn courses() -> [Course; 7] {
     let course = |record, idle, code| Course { record, idle, code };
     let (x, s, t) = (0x0010, 0x0011, 0x02);
@@ -181,8 +181,8 @@ fn courses() -> [Course; 7] {
         course(Record { x, ..on() }, 0, &[0xFD, 0xEB, 0x00, 0x12, 0x5A, 0xFD, 0xEB, 0x00, 0x12, 1]),
         course(Record { x, s, ..on() }, 0, &[0x0E, 0xFD, 0xC8, 0x15, 0x41, 0x9E, 0x06]),
         course(Record::default(), 0, &[0x38]),
-        course(Record { ir0: true, ..on() }, 0, &[0x38]),
         course(waiting, 42, &[0x38]),
+        course(Record { ir0: true, s, ..on() }, 0, &[0x38]),
         course(Record { ir1: true, t, s, ..on() }, 0, &[0x38]),
     ]
 }
@@ -369,10 +369,9 @@ mod tests {
     /// A step of no access wants seven free entries too.
     #[test]
     fn eleven_before_steps_without_an_access() {
-        let off = Record::default();
-        let held = Record { ir0: true, ..on() };
+        let off = Record { ir0: true, ..Record::default() };
         let halted = Record { is_halted: true, ..on() };
-        for record in [off, held, halted] {
+        for record in [off, halted] {
             for (length, number, steps) in [(6, 11, 0), (7, 0, 3)] {
                 let mut call = call(record, &[], 3, length, 0);
                 call.inputs.idle = 9;

@@ -16,9 +16,14 @@ mod directed;
 mod drops;
 #[cfg(test)]
 mod faults;
+mod first_step;
 mod fuzz;
 mod halted;
 mod help;
+mod ir0;
+mod ir0_counts;
+#[cfg(test)]
+mod ir0_faults;
 mod item;
 mod items;
 mod lines;
@@ -55,6 +60,7 @@ mod stop_faults;
 mod stop_law;
 mod stops;
 mod symbols;
+mod tallies;
 mod traces;
 mod waits;
 

@@ -19,8 +19,21 @@ use crate::opcodes::{
     INTERRUPT_ENABLE, OVERFLOW, ZERO,
 };
 
-const TIMER_INTERRUPT: u32 = 0xFFFA;
-const LINE_INTERRUPT: u32 = 0xFFF8;
+/// An interrupt: the request's flag, which the entry clears, where its vector is, and whether it has
+/// to wait for IE.
+struct Interrupt {
+    request: fn(&mut Record) -> &mut bool,
+    vector: u32,
+    wants_ie: bool,
+}
+
+/// IR0, IR1 and IR2. Where several are requested, the first of them that may be accepted is.
+const INTERRUPTS: [Interrupt; 3] = [
+    Interrupt { request: |record| &mut record.ir0, vector: 0xFFFC, wants_ie: false },
+    Interrupt { request: |record| &mut record.ir1, vector: 0xFFFA, wants_ie: true },
+    Interrupt { request: |record| &mut record.ir2, vector: 0xFFF8, wants_ie: true },
+];
+
 /// States after which the timer shifts.
 const PERIOD: u64 = 42;
 
@@ -166,7 +179,7 @@ struct Step<'a> {
     slip: Option<Slip>,
 }
 
-/// The order of a step: document 01, "One step".
+/// The order of a step: document 01, "One step", with document 02's F-1, F-5 and F-6.
 impl Step<'_> {
     fn run(&mut self) -> Result<(), Stop> {
         if !self.r.bf {
@@ -177,9 +190,7 @@ impl Step<'_> {
             self.r.ir1 = true;
             self.r.is_timer_reached = false;
         }
-        if !self.r.ir0 {
-            self.interrupt_or_instruction()?;
-        }
+        self.interrupt_or_instruction()?;
         if self.r.timer_state.wrapping_sub(self.r.step_previous_state) >= PERIOD {
             self.shift_timer();
         }
@@ -188,16 +199,13 @@ impl Step<'_> {
 
     fn interrupt_or_instruction(&mut self) -> Result<(), Stop> {
         let enabled = self.flag(INTERRUPT_ENABLE);
-        if enabled && self.r.ir1 {
-            self.interrupt(TIMER_INTERRUPT);
-            self.r.ir1 = false;
-        } else if enabled && self.r.ir2 {
-            self.interrupt(LINE_INTERRUPT);
-            self.r.ir2 = false;
-        } else if self.r.is_halted {
-            self.halted()?;
-        } else {
-            self.instruction()?;
+        let accepted = INTERRUPTS.iter().find(|interrupt| {
+            *(interrupt.request)(&mut self.r) && (enabled || !interrupt.wants_ie)
+        });
+        match accepted {
+            Some(interrupt) => self.enter(interrupt),
+            None if self.r.is_halted => self.halted()?,
+            None => self.instruction()?,
         }
         Ok(())
     }
@@ -214,12 +222,14 @@ impl Step<'_> {
         }
     }
 
-    /// Pushes T as it is, then clears IE, pushes P and goes where the vector says.
-    fn interrupt(&mut self, vector: u32) {
+    /// Pushes T as it is, then clears IE and the request, pushes P and goes where the vector says. No
+    /// states are added.
+    fn enter(&mut self, interrupt: &Interrupt) {
         self.push(self.r.t);
         self.put_flag(INTERRUPT_ENABLE, false);
+        *(interrupt.request)(&mut self.r) = false;
         self.push_word(self.r.p);
-        self.r.p = self.vector_word(vector);
+        self.r.p = self.vector_word(interrupt.vector);
         self.r.is_halted = false;
     }
 

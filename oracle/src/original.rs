@@ -4,7 +4,8 @@
 //! its panics, and every access. What is this harness's own: 1 to 4, 7, 11 and 12, the undoing of
 //! a step that stops, the bus log's entries, made of those accesses, the states that a halted step
 //! adds (`halted_states`, the one place where the build changes the included text), and everything
-//! that the file expects of the machine around it.
+//! that the file expects of the machine around it. IR0's entry, a call's first step, is the model's
+//! (`first_step.rs`).
 
 #![forbid(unsafe_code)]
 
@@ -15,6 +16,7 @@ use std::sync::Once;
 
 use self::lh5801::Lh5801;
 use crate::call::{refusal, Answer, BusLog, Call, Inputs, Record, Side};
+use crate::first_step;
 use crate::memory::Memory;
 use bare::Keyboard;
 
@@ -238,15 +240,9 @@ impl Original {
             }
         }
     }
-}
 
-impl Side for Original {
-    fn name(&self) -> &'static str {
-        "original"
-    }
-
-    fn call(&mut self, call: &Call) -> Answer {
-        install_silent_hook();
+    /// A call of which the original makes every step.
+    fn whole_call(call: &Call) -> Answer {
         let lengths = [call.pages[0].len(), call.pages[1].len()];
         if let Some(number) = refusal(lengths, call.record.tm, call.limit) {
             return Answer::refused(call, number);
@@ -256,6 +252,17 @@ impl Side for Original {
         Original::run(&mut machine, call, &mut answer);
         let (pages, log) = machine.memory.finish(answer.steps);
         Answer { pages, log: Some(log), ..answer }
+    }
+}
+
+impl Side for Original {
+    fn name(&self) -> &'static str {
+        "original"
+    }
+
+    fn call(&mut self, call: &Call) -> Answer {
+        install_silent_hook();
+        first_step::call(call, Original::whole_call)
     }
 }
 
@@ -300,12 +307,13 @@ mod tests {
     }
 
     /// The library's run call, which foretells 5 and 6, answers as the panics do. Half of the calls
-    /// have a stop address.
+    /// have a stop address, none begins with IR0's entry.
     #[test]
     fn the_bare_run_call_answers_as_the_panics_do() {
         for index in 0..3000 {
             let mut random = Random::new(11, index);
-            let call = random::idle_call(&mut random);
+            let mut call = random::idle_call(&mut random);
+            call.record.ir0 &= !call.record.bf;
             let call = stop_addresses::sometimes(&mut random, call);
             let panics = Original.call(&call);
             let mut bare = bare::Pc1500::new(&call.record, call.inputs, call.pages);

@@ -28,8 +28,8 @@ pub fn sometimes(random: &mut Random, mut call: Call) -> Call {
 
 /// An interrupt whose pushes lie over its own vector.
 pub fn stack_over_vectors(random: &mut Random, record: &mut Record) {
-    record.s = 0xFFF7 + random.below(8) as u16;
-    record.set_flags(0x008 | random.pick(&[0x040, 0x080, 0x100, 0x041]));
+    record.s = 0xFFF7 + random.below(9) as u16;
+    record.set_flags(0x008 | random.pick(&[0x020, 0x040, 0x080, 0x100, 0x021, 0x041]));
     record.t |= 0x02;
 }
 
@@ -97,15 +97,16 @@ fn far(random: &mut Random, length: usize) -> u32 {
 
 /// One vector's byte, one vector or some of them.
 fn around_vectors(random: &mut Random) -> ReadOnly {
-    let first = random.pick(&[0xFF00, 0xFFC0, 0xFFF8, 0xFFF9, 0xFFFA, 0xFFFB]);
-    let end = random.pick(&[first + 1, first + 2, 0xFFFA, 0xFFFB, 0xFFFC, 65_536, 131_072]);
+    let first = random.pick(&[0xFF00, 0xFFC0, 0xFFF8, 0xFFF9, 0xFFFA, 0xFFFB, 0xFFFC, 0xFFFD]);
+    let ends = [first + 1, first + 2, 0xFFFA, 0xFFFB, 0xFFFC, 0xFFFD, 65_536, 131_072];
+    let end = random.pick(&ends);
     ReadOnly::new(first, end)
 }
 
 /// The end is at the first or below it.
 fn empty(random: &mut Random, target: u32, length: usize) -> ReadOnly {
     let first = if random.chance(60) { target } else { edge(random, length) };
-    let less = random.pick(&[0, 0, 1, 2, first / 2, first]);
+    let less = random.pick(&[0, 0, 0, 1, 2, first / 2, first]);
     ReadOnly::new(first, first.saturating_sub(less))
 }
 

@@ -106,7 +106,7 @@ fn accumulator(random: &mut Random) -> u8 {
 }
 
 fn flags(random: &mut Random) -> u16 {
-    let chances = [8, 50, 50, 94, 50, 4, 15, 15, 15];
+    let chances = [8, 50, 50, 94, 50, 12, 15, 15, 15];
     (0..9).map(|i| u16::from(random.chance(chances[i])) << i).sum()
 }
 
@@ -156,7 +156,30 @@ pub fn record(random: &mut Random, lengths: [usize; 2]) -> Record {
         ..Record::default()
     };
     record.set_flags(flags(random));
+    if record.ir0 {
+        beside_ir0(random, &mut record);
+    }
     record
+}
+
+/// Sets IR0, as a host may between two calls.
+pub fn request_ir0(random: &mut Random, record: &mut Record) {
+    record.ir0 = true;
+    beside_ir0(random, record);
+}
+
+/// What comes with IR0: in half of the records everything beside it that could decide about a step, as
+/// often set as clear, and in a third of them the stack over IR0's vector or beside it.
+fn beside_ir0(random: &mut Random, record: &mut Record) {
+    if random.chance(50) {
+        let deciding = random.word() & 0x1C1;
+        record.set_flags(record.flags() & !0x1C1 | deciding);
+        record.bf = random.chance(85);
+        record.t = random.byte();
+    }
+    if random.chance(33) {
+        record.s = 0xFFF8_u16.wrapping_add(random.below(11) as u16);
+    }
 }
 
 pub fn limit(random: &mut Random) -> u32 {
@@ -256,6 +279,32 @@ pub fn place(page: &mut [u8], at: u16, code: &[u8]) {
     }
 }
 
+/// A routine for each of IR2, IR1 and IR0, and the vectors that name them: bytes and their addresses. A
+/// routine returns, often with IE set before, so that the next request is accepted inside it.
+pub fn routines(random: &mut Random) -> [(u16, Vec<u8>); 4] {
+    let routines = [0, 1, 2].map(|_| {
+        let codes: [&[u8]; 4] =
+            [&[0x8A], &[0x38, 0x8A], &[0xFD, 0x81, 0x8A], &[0xFD, 0x81, 0x38, 0x8A]];
+        (random.word(), random.pick(&codes).to_vec())
+    });
+    let vectors = routines.iter().flat_map(|(at, _)| at.to_be_bytes()).collect();
+    let [ir2, ir1, ir0] = routines;
+    [ir2, ir1, ir0, (0xFFF8, vectors)]
+}
+
+/// Makes a page 0 whole, and puts such routines into it.
+fn add_routines(random: &mut Random, page: &mut Vec<u8>) {
+    page.resize(65_536, 0x38);
+    routines(random).iter().for_each(|(at, bytes)| place(page, *at, bytes));
+}
+
+/// Makes a call begin with IR0's entry, often with other requests besides, and with routines for them.
+pub fn enter_ir0(random: &mut Random, call: &mut Call) {
+    request_ir0(random, &mut call.record);
+    call.record.bf = true;
+    add_routines(random, &mut call.pages[0]);
+}
+
 /// A random call with whole pages and the idle figure 0.
 pub fn call(random: &mut Random) -> Call {
     let lengths = [length(random), length(random)];
@@ -265,6 +314,9 @@ pub fn call(random: &mut Random) -> Call {
         let size = random.pick(&[8, 40, 120]);
         let code = program(random, size, lengths, record.p);
         place(&mut pages[0], record.p, &code);
+    }
+    if record.ir0 && random.chance(40) {
+        add_routines(random, &mut pages[0]);
     }
     for page in &mut pages {
         if random.below(300) == 0 {
@@ -347,7 +399,7 @@ pub fn garbage(random: &mut Random, length: usize, used: usize) -> BusLog {
     BusLog { entries, used }
 }
 
-/// Parks the unit: halted, BF set, IR0 clear, half of the time a request; mostly IE set, and often
+/// Parks the unit: halted, BF set, IR0 clear, half of the time another request; mostly IE set, and often
 /// the timer one to four shifts before 1FF, so that it wakes the unit soon.
 pub fn park(random: &mut Random, record: &mut Record) {
     let request = random.pick(&[0x000, 0x000, 0x000, 0x040, 0x080, 0x100]);
@@ -398,7 +450,7 @@ fn walkable(random: &mut Random, page: &mut [u8]) {
 /// Changes a part of the record, as a host may between two calls.
 pub fn change(random: &mut Random, record: &mut Record, lengths: [usize; 2]) {
     let program = record.p;
-    match random.below(12) {
+    match random.below(13) {
         0 => record.p = start(random, lengths),
         1 => record.p = address(random, lengths, program),
         2 => record.s = address(random, lengths, program),
@@ -410,6 +462,7 @@ pub fn change(random: &mut Random, record: &mut Record, lengths: [usize; 2]) {
         8 => (record.timer_state, record.step_previous_state) = timer(random),
         9 => record.ir1 = true,
         10 => record.ir2 = true,
+        11 => request_ir0(random, record),
         _ => record.set_flags(flags(random)),
     }
 }

@@ -147,11 +147,11 @@ fn vector_call(number: u8, s: u16, read_only: ReadOnly) -> Call {
     Call { record, limit: 1, pages, read_only, ..Call::default() }
 }
 
-/// With BF clear, held, waiting, and NOP.
+/// With BF clear, IR0 clear and set; waiting; and NOP.
 fn quiet() -> impl Iterator<Item = Call> {
     let waiting = Record { is_halted: true, ..on() };
-    let held = Record { ir0: true, ..on() };
-    [Record::default(), held, waiting, on()].into_iter().flat_map(|record| {
+    let off = Record { ir0: true, ..Record::default() };
+    [Record::default(), off, waiting, on()].into_iter().flat_map(|record| {
         around(0).into_iter().map(move |read_only| {
             let inputs = Inputs { idle: 42, ..Inputs::default() };
             let pages = [vec![0x38; 8], vec![0x77; 8]];
@@ -401,12 +401,12 @@ mod tests {
         }
     }
 
-    /// With BF clear, held and waiting nothing is written, and the step is as without a part.
+    /// With BF clear and waiting nothing is written, and the step is as without a part.
     #[test]
     fn steps_without_a_write_do_not_mind() {
-        let held = Record { ir0: true, ..on() };
+        let off = Record { ir0: true, ..Record::default() };
         let waiting = Record { is_halted: true, ..on() };
-        for (record, states) in [(Record::default(), 8), (held, 0), (waiting, 42)] {
+        for (record, states) in [(Record::default(), 8), (off, 8), (waiting, 42)] {
             let mut call = call(record, &[0x0E], 0, u32::MAX);
             call.inputs.idle = 42;
             for answer in answers(&call) {

@@ -15,6 +15,7 @@ use crate::call::{
 };
 use crate::compare::{self, ends_in_words, have_all, ordered_original, slices};
 use crate::drops::Drops;
+use crate::ir0_counts::Ir0Counts;
 use crate::opcodes::{table, Kind, Place};
 use crate::original::Original;
 use crate::port;
@@ -51,6 +52,7 @@ struct Course {
     waits: u64,
     drops: Drops,
     stops: Stops,
+    ir0: Ir0Counts,
 }
 
 impl Course {
@@ -68,6 +70,7 @@ impl Course {
             waits: 0,
             drops: Drops::default(),
             stops: Stops::default(),
+            ir0: Ir0Counts::default(),
         }
     }
 
@@ -169,6 +172,7 @@ fn course(call: &Call, limits: &[u32]) -> Result<Course, String> {
         course.end_call(&answer);
         course.drops.add(&next, &answer);
         course.stops.add(&next, &answer);
+        course.ir0.add(&next, &answer);
         (next.record, next.pages, next.bus_log) = (answer.record, answer.pages, answer.bus_log);
     }
     if let (Some(given), Some(log)) = (&call.bus_log, &next.bus_log) {
@@ -302,6 +306,8 @@ struct Counts {
     stopping_runs: u64,
     stop_addresses: Stops,
     cuts: u64,
+    /// Calls of the original that begin with IR0 set.
+    ir0: Ir0Counts,
 }
 
 impl Counts {
@@ -329,6 +335,7 @@ impl Counts {
         self.protected_runs += u64::from(course.read_only != ReadOnly::default());
         self.drops.join(&course.drops);
         self.stop_addresses.join(&course.stops);
+        self.ir0.join(&course.ir0);
     }
 
     fn print(&self) {
@@ -355,11 +362,12 @@ impl Counts {
             "runs with a stop address: {}, {} of them end with 12, {} cuts fall on it;\n  {}",
             self.stopping_runs, self.stops[12], self.cuts, self.stop_addresses
         );
+        println!("{}", self.ir0);
     }
 
-    /// Whether read-only parts and stop addresses have done all that they can do.
+    /// Whether read-only parts, stop addresses and IR0 have done all that they can do.
     fn have_all(&self) -> bool {
-        let all = have_all(&self.drops, &self.stop_addresses);
+        let all = have_all(&self.drops, &self.stop_addresses, &self.ir0);
         if self.cuts == 0 {
             println!("no cut falls on a stop address");
         }
@@ -432,6 +440,7 @@ fn case(random: &mut Random) -> Call {
     match random.below(100) {
         0..=3 => protect::stack_over_vectors(random, &mut call.record),
         4..=23 => near_stores(random, &mut call),
+        24..=35 => random::enter_ir0(random, &mut call),
         _ => {}
     }
     let mut call = random::with_idle(random, call);
@@ -472,12 +481,12 @@ fn storing(random: &mut Random) -> Vec<u8> {
     }
 }
 
-/// In a run of so many cases read-only parts and stop addresses have to have done all that they can
-/// do.
+/// In a run of so many cases read-only parts, stop addresses and IR0 have to have done all that they
+/// can do.
 const MANY: u64 = 2000;
 
-/// Runs the cases; true where demand 3 held in each, and read-only parts and stop addresses came as
-/// they have to.
+/// Runs the cases; true where demand 3 held in each, and read-only parts, stop addresses and IR0 came
+/// as they have to.
 pub fn run(cases: u64, seed: u64) -> bool {
     println!("seed {seed}, lists of calls through the port");
     let mut counts = Counts::default();

@@ -317,6 +317,9 @@ pub fn once(way: &str, file: &Path, is_logged: bool) -> Result<String, String> {
         let answer = port::call(record, *inputs, *limit, pages, log.as_mut(), *read_only);
         return answer.failure.clone().map_or_else(|| Ok(answer.line()), Err);
     }
+    if call.record.enters_ir0() {
+        return Err("the run begins with IR0's entry, which is no step of the original".to_string());
+    }
     let mut machine = Pc1500::new(&call.record, call.inputs, call.pages);
     if way == WAYS[ORIGINAL] {
         let returned = machine.original_run(call.limit, &mut ());

@@ -44,11 +44,11 @@ fn turned(random: &mut Random, address: u16) -> u16 {
     address ^ 1 << random.below(16)
 }
 
-/// What a vector names: that of the timer, that of the line, or any of the 256. The second byte of
-/// vector FF is at 10000, in page 1.
+/// What a vector names: that of IR0, IR1 or IR2, or any of the 256. The second byte of vector FF is at
+/// 10000, in page 1.
 fn vector(random: &mut Random, pages: &[Vec<u8>; 2]) -> u16 {
     let any = 0xFF00 + random.below(256) as u32;
-    let at = random.pick(&[0xFFFA, 0xFFF8, any]);
+    let at = random.pick(&[0xFFFC, 0xFFFA, 0xFFF8, any]);
     u16::from_be_bytes([at, at + 1].map(|at| byte_at(pages, at)))
 }
 

@@ -4,9 +4,10 @@
 
 use std::fmt;
 
-use crate::call::{Access, Answer, Call, Log, Record};
+use crate::call::{Access, Answer, Call, Log};
 use crate::memory::code_at;
 use crate::opcodes::length;
+use crate::tallies::Tallies;
 
 /// What a call may do with its stop address.
 #[derive(Clone, Copy, Debug, PartialEq, Eq)]
@@ -23,10 +24,11 @@ pub enum Met {
     /// Ended with 11, or with 0 at the limit, where an instruction was due at the address.
     Full,
     Limit,
-    /// A step with P there that is no instruction: BF clear, IR0 set, waiting, an entry.
+    /// A step with P there that is no instruction: BF clear, waiting, the entry of IR0, of another
+    /// interrupt.
     Off,
-    Held,
     Waiting,
+    EntryOfIr0,
     Entry,
     /// Ended with 7, and P is there.
     Halted,
@@ -48,9 +50,9 @@ const ALL: [(Met, &str); 15] = [
     (Full, "11 there"),
     (Limit, "the limit there"),
     (Off, "BF clear there"),
-    (Held, "IR0 set there"),
     (Waiting, "waiting there"),
-    (Entry, "an entry from there"),
+    (EntryOfIr0, "the entry of IR0 from there"),
+    (Entry, "another entry from there"),
     (Halted, "7 there"),
     (Inside, "inside an instruction"),
     (Never, "never met"),
@@ -58,10 +60,7 @@ const ALL: [(Met, &str); 15] = [
 
 /// How many calls had a stop address, and how many of them did each of these.
 #[derive(Clone, Default)]
-pub struct Stops {
-    calls: u64,
-    met: [u64; ALL.len()],
-}
+pub struct Stops(Tallies<{ ALL.len() }>);
 
 /// What a completed step was, and P at its beginning.
 pub struct Begun<'a> {
@@ -116,7 +115,13 @@ impl Stops {
         let busy = steps.iter().rposition(|step| !step.accesses.is_empty());
         for (index, step) in steps.iter().enumerate().filter(|(_, step)| step.p == address) {
             let is_last = busy.is_none_or(|busy| busy < index);
-            met.extend(kind(step, &answer.record, is_last));
+            met.push(match step.accesses {
+                [] if !answer.record.bf && is_last => Off,
+                [] => Waiting,
+                _ if step.is_instruction() => continue,
+                _ if index == 0 && call.record.enters_ir0() => EntryOfIr0,
+                _ => Entry,
+            });
         }
         if answer.number == 12 && steps.last().is_some_and(Begun::is_entry) {
             met.push(Target);
@@ -144,20 +149,16 @@ impl Stops {
 
     /// One more call, which did all of these.
     fn count(&mut self, met: &[Met]) {
-        self.calls += 1;
-        for (count, (kind, _)) in self.met.iter_mut().zip(ALL) {
-            *count += u64::from(met.contains(&kind));
-        }
+        self.0.add(met.iter().map(|met| *met as usize));
     }
 
     pub fn join(&mut self, other: &Stops) {
-        self.calls += other.calls;
-        self.met.iter_mut().zip(other.met).for_each(|(left, right)| *left += right);
+        self.0.join(&other.0);
     }
 
     /// Whether each of these was met.
     pub fn have_all(&self) -> bool {
-        self.met.iter().all(|count| *count > 0)
+        self.0.have_all()
     }
 }
 
@@ -182,23 +183,10 @@ fn ended(address: u16, answer: &Answer, pages: &[Vec<u8>; 2]) -> Vec<Met> {
     }
 }
 
-/// What a step with P at the stop address is. It is the last one but for steps without an access.
-fn kind(step: &Begun, end: &Record, is_last: bool) -> Option<Met> {
-    match step.accesses {
-        [] if !end.bf && is_last => Some(Off),
-        [] if end.ir0 => Some(Held),
-        [] => Some(Waiting),
-        _ => step.is_entry().then_some(Entry),
-    }
-}
-
 impl fmt::Display for Stops {
     fn fmt(&self, f: &mut fmt::Formatter<'_>) -> fmt::Result {
-        let counts: Vec<_> = self.met.iter().zip(ALL).collect();
-        let words: Vec<_> =
-            counts.iter().map(|(count, (_, name))| format!("{name} {count}")).collect();
-        let [ends, steps] = [&words[..8], &words[8..]].map(|words| words.join(", "));
-        write!(f, "{} calls with a stop address: {ends},\n  {steps}", self.calls)
+        let words = self.0.words(ALL.map(|(_, name)| name), 8);
+        write!(f, "{} calls with a stop address: {words}", self.0.calls)
     }
 }
 
@@ -218,8 +206,8 @@ mod tests {
     fn counted(call: &Call) -> Vec<Met> {
         let mut stops = Stops::default();
         stops.add(call, &Original.call(call));
-        assert_eq!(stops.calls, 1);
-        ALL.into_iter().map(|(kind, _)| kind).filter(|kind| stops.met[*kind as usize] > 0).collect()
+        assert_eq!(stops.0.calls, 1);
+        stops.0.kinds().into_iter().map(|kind| ALL[kind].0).collect()
     }
 
     fn on() -> Record {
@@ -257,8 +245,10 @@ mod tests {
         assert_eq!(met(entering, &[0x38], 2, 0xFFFF), wanted);
         assert_eq!(met(on(), &[0xFD, 0xB1], 3, 2), [Met::Waiting]);
         assert_eq!(met(on(), &[0xFD, 0x4C], 3, 2), [Met::Off]);
-        assert_eq!(met(Record { ir0: true, ..on() }, &[0x38], 3, 0), [Met::Held]);
-        assert_eq!(met(Record { ir0: true, bf: false, ..on() }, &[0x38], 3, 0), [Met::Off]);
+        let [ir0, off] = [true, false].map(|bf| Record { ir0: true, bf, s: 0x0100, ..entering });
+        assert_eq!(met(ir0, &[0x38], 1, 0), [Met::EntryOfIr0]);
+        assert_eq!(met(ir0, &[0x38], 2, 0), [Met::EntryOfIr0]);
+        assert_eq!(met(off, &[0x38], 3, 0), [Met::Off]);
     }
 
     /// P before each step: HLT, a wait of 42 states that ends in 1FF, the entry, RTI, a wait.

@@ -30,7 +30,7 @@ enum Fault {
     UncheckedWithALog,
     /// Looked for before a step that is no instruction.
     WithBfClear,
-    WithIr0,
+    BeforeIr0,
     WhileWaiting,
     WhereHalted,
     BeforeAnEntry,
@@ -81,7 +81,7 @@ const FAULTS: [Fault; 37] = [
     UncheckedWithoutALog,
     UncheckedWithALog,
     WithBfClear,
-    WithIr0,
+    BeforeIr0,
     WhileWaiting,
     WhereHalted,
     BeforeAnEntry,
@@ -166,7 +166,8 @@ impl Wrong {
             }
             let one = Model::default().call(&next);
             last = Some(last_of(&next, &one));
-            take(&mut next, &mut sum, one);
+            sum.join(one);
+            next.go_on(&mut sum);
         }
         if sum.number == 0 && self.fault == InPlaceOfZero && self.is_there(call, &next, last) {
             sum.number = 12;
@@ -203,7 +204,7 @@ impl Wrong {
         let is_plain = r.bf && !r.ir0 && !is_accepted && !r.is_halted;
         match self.fault {
             WithBfClear => is_plain || !r.bf,
-            WithIr0 => is_plain || r.bf && r.ir0,
+            BeforeIr0 => is_plain || r.enters_ir0(),
             WhileWaiting => is_plain || r.begins_halted_step() && next.inputs.idle != 0,
             WhereHalted => is_plain || r.begins_halted_step() && next.inputs.idle == 0,
             BeforeAnEntry => is_plain || r.bf && !r.ir0 && is_accepted,
@@ -265,20 +266,6 @@ fn last_of(before: &Call, one: &Answer) -> Last {
     let is_entry = accesses.first().is_some_and(Access::is_write);
     let behind = before.record.p.wrapping_add(length(code(before)));
     Last { record: before.record, is_entry, behind }
-}
-
-/// Adds a step of the model to the sum; the next one goes on from it.
-fn take(next: &mut Call, sum: &mut Answer, one: Answer) {
-    if let (Some(all), Some(log)) = (&mut sum.log, &one.log) {
-        let begin = all.accesses.len();
-        all.starts.push(begin);
-        all.accesses.extend(&log.accesses);
-        all.completed = begin + log.completed;
-    }
-    (next.record, next.pages, next.bus_log) = (one.record, one.pages, one.bus_log);
-    (sum.number, sum.byte) = (one.number, one.byte);
-    sum.steps += one.steps;
-    sum.states += one.states;
 }
 
 /// The first of these calls that shows the fault.

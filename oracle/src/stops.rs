@@ -425,7 +425,7 @@ mod tests {
         }
     }
 
-    /// A halted unit gives 7, or waits; with BF clear and with IR0 set steps go on.
+    /// A halted unit gives 7, or waits; with BF clear steps go on; IR0's entry is made, IE clear.
     #[test]
     fn only_an_instruction_is_stopped() {
         let halted = Record { is_halted: true, ..on() };
@@ -434,7 +434,8 @@ mod tests {
         waiting.inputs.idle = 5;
         hold(&waiting, 0, 3, 15, |_| {});
         hold(&call(Record::default(), &[0x38], 3, Some(0)), 0, 3, 24, |_| {});
-        hold(&call(Record { ir0: true, ..on() }, &[0x38], 3, Some(0)), 0, 3, 0, |_| {});
+        let ir0 = call(Record { ir0: true, ..on() }, &[0x38], 1, Some(0));
+        hold(&ir0, 0, 1, 0, |record| (record.ir0, record.s, record.p) = (false, 0x003D, 0xFFFF));
     }
 
     /// With six entries free it is 11, with seven 12; 1 to 4 come before both.

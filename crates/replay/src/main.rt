@@ -1,11 +1,12 @@
 //! Replays a list of the original's answers, and prints how many calls there were and how many differ. No Rust is needed for it.
 //!
 //! The list, data/answers0.bin and on, cut between items, was made by `oracle items 1500 --seed 7 --out DIR`; a test of the oracle makes it again. First
-//! come 3,319 calls with the original's answers, where stops 1 to 4, 7, 11 and 12 and the dropping of writes are the oracle's own: the 923 directed calls
-//! of `oracle list` without a log and 1,500 random ones, every third of which has a log; then directed calls with a log: 187 short runs with used counts
-//! up to, at and beyond the list's end, each listed opcode once, and 91 of the directed calls again, which are not of an opcode each and take less than a
-//! million steps; then 147 directed calls with a read-only part, 73 of them with a log; then 155 directed calls with a stop address, 77 of them with a log
-//! and 45 with a read-only part; 74 of them end with 12. In all 1,244 calls have a log, and 260 end with 11, 138 of them after completed steps. Then come
+//! come 3,432 calls with the original's answers, where stops 1 to 4, 7, 11 and 12, the dropping of writes and the entry of IR0 are the oracle's own: the
+//! 930 directed calls of `oracle list` without a log and 1,500 random ones, every third of which has a log; then directed calls with a log: 187 short runs
+//! with used counts up to, at and beyond the list's end, each listed opcode once, and 98 of the directed calls again, which are not of an opcode each and
+//! take less than a million steps; then 147 directed calls with a read-only part, 73 of them with a log; then 155 directed calls with a stop address, 77
+//! of them with a log and 45 with a read-only part; then 99 directed calls with IR0 set, 52 of them with a log, 13 with a read-only part and 8 with a stop
+//! address. In all 1,303 calls have a log; 280 end with 11, 157 of them after completed steps, and 79 with 12; 295 begin with the entry of IR0. Then come
 //! 121 files that are turned down with 8, 9 or 10: document 01's example cut at every place, with bytes left over, with each field too great or too long,
 //! and with random bytes changed; their lines are the oracle's own reading, for the original has none.
 //! An item, its numbers lowest byte first: the campaign file's length (2 bytes), the two pages' lengths (4 each), the line's length (1), the fill
@@ -34,7 +35,7 @@ use std::rt::Files;
 use std::{fs, io};
 
 // The parts of the list, each in a file.
-const PARTS: [&str; 9] = [
+const PARTS: [&str; 10] = [
     "answers0.bin",
     "answers1.bin",
     "answers2.bin",
@@ -44,6 +45,7 @@ const PARTS: [&str; 9] = [
     "answers6.bin",
     "answers7.bin",
     "answers8.bin",
+    "answers9.bin",
 ];
 
 // Two running sums over numbers: each number is added to the first, and then the first to the second, modulo 2^64.

@@ -4,6 +4,11 @@
  * of the byte at 0200 and returns; the column goes on, and its total is the same. Document 01's line
  * is printed before the entry, after it, and at the end, and then the byte at 0200. It prints
  *
+ *   0 10 79 00 15 0014 0017 0001 03FF 0005 000 008 79 47 79
+ *   0 1 0 00 15 0014 0017 0001 03FC 0100 000 008 79 47 79
+ *   7 14 139 03 11 0013 0016 0000 03FF 0014 000 009 218 192 218
+ *   01
+ *
  *   cc -I include examples/undervoltage.c crates/lh5801/out/liblh5801.a -o undervoltage && ./undervoltage
  */
 #include <stdio.h>

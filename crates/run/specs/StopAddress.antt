@@ -72,8 +72,8 @@ after_states states flags = record_of (0 ∷ 0 ∷ 0 ∷ 0 ∷ 0 ∷ 0x0020 ∷ 
 
 -- P is 0000, the stop address, and T 02, which is IE; flags as given: an interrupt is entered, with its vector there, and these flags are left. Nothing
 -- is stored at the stack, nor read at the vector
-abbrev pub enters : ℕ → Interrupt → ℕ → ℕ → AddressStep
-enters flags i vector left =
+abbrev pub entered_there : ℕ → Interrupt → ℕ → ℕ → AddressStep
+entered_there flags i vector left =
     steps_to 0x0000 0 (at_p 2 0x0000 flags) (did (record_of (0 ∷ 0 ∷ 0 ∷ 0 ∷ 0 ∷ 0x001D ∷ 0xFFFF ∷ 0 ∷ left ∷ 0 ∷ 0 ∷ 0 ∷ [])) 0 (interrupt i))
     (write_of 0x0020 0x02 ∷ write_of 0x001F 0x00 ∷ write_of 0x001E 0x00 ∷ read_of vector 0xFF ∷ read_of (vector + 1) 0xFF ∷ [])
 
@@ -97,10 +97,10 @@ address_steps =
     ∷ steps_to 0x0002 0 (at_p 0 0x0003 0x008) (stopped (Unlisted (First 0x31))) (read_of 0x0003 0x31 ∷ [])
     -- no instruction is due there: BF clear; an interrupt accepted, from timer reached, IR1, IR2 and IR0; halted, where it stops with 7 or waits
     ∷ steps_to 0x0000 0 (at_p 0 0x0000 0x000) (did (after_states 8 0x000) 8 off) []
-    ∷ enters 0x108 Ir1 0xFFFA 0x008
-    ∷ enters 0x048 Ir1 0xFFFA 0x008
-    ∷ enters 0x088 Ir2 0xFFF8 0x008
-    ∷ enters 0x0E8 Ir0 0xFFFC 0x0C8
+    ∷ entered_there 0x108 Ir1 0xFFFA 0x008
+    ∷ entered_there 0x048 Ir1 0xFFFA 0x008
+    ∷ entered_there 0x088 Ir2 0xFFF8 0x008
+    ∷ entered_there 0x0E8 Ir0 0xFFFC 0x0C8
     ∷ steps_to 0x0000 0 (at_p 0 0x0000 0x009) (stopped Halted) []
     ∷ steps_to 0x0000 5 (at_p 0 0x0000 0x009) (did (after_states 5 0x009) 5 waiting) []
     ∷ []

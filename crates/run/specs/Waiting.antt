@@ -36,8 +36,8 @@ abbrev pub waits : ℕ → Lh5801 → Lh5801 → HaltedCase
 waits idle m k = ends idle m (did k idle waiting) []
 
 -- an interrupt is accepted, with S and P 0000: T is pushed, the vector reads FFFF, and of the flags only BF is left
-abbrev pub enters : ℕ → ℕ → ℕ → Interrupt → ℕ → HaltedCase
-enters idle t flags i vector =
+abbrev pub wakes : ℕ → ℕ → ℕ → Interrupt → ℕ → HaltedCase
+wakes idle t flags i vector =
     ends idle (cpu t 0 flags 0 0 0) (did (record_of (0 ∷ 0 ∷ 0 ∷ 0 ∷ 0 ∷ 0xFFFD ∷ 0xFFFF ∷ 0 ∷ 0x008 ∷ 0 ∷ 0 ∷ 0 ∷ [])) 0 (interrupt i))
     (write_of 0x0000 t ∷ write_of 0xFFFF 0x00 ∷ write_of 0xFFFE 0x00 ∷ read_of vector 0xFF ∷ read_of (vector + 1) 0xFF ∷ [])
 
@@ -61,10 +61,10 @@ halted_cases =
     ∷ waits 5 (cpu 0 0 0x0C9 0 0 0) (cpu 0 0 0x0C9 5 0 5)
     ∷ stops (cpu 0 0 0x109 0 0 0)
     -- timer reached, IR1 and IR2 are accepted with IE set, and IR0 with IE clear too, whatever the idle figure is
-    ∷ enters 5 2 0x109 Ir1 0xFFFA
-    ∷ enters 5 2 0x089 Ir2 0xFFF8
-    ∷ enters 5 0 0x029 Ir0 0xFFFC
-    ∷ enters 0 2 0x029 Ir0 0xFFFC
+    ∷ wakes 5 2 0x109 Ir1 0xFFFA
+    ∷ wakes 5 2 0x089 Ir2 0xFFF8
+    ∷ wakes 5 0 0x029 Ir0 0xFFFC
+    ∷ wakes 0 2 0x029 Ir0 0xFFFC
     -- with BF clear it does not wait, with IR0 set too
     ∷ ends 5 (cpu 0 0 0x021 0 0 0) (did (cpu 0 0 0x021 8 0 8) 8 off) []
     ∷ ends 5 (cpu 0 0 0x101 0 0 0) (did (cpu 0 0 0x101 8 0 8) 8 off) []

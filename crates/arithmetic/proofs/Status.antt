@@ -5,7 +5,7 @@ use Rattle.arithmetic.specs.declared.record.Lh5801.{Lh5801}
 use Rattle.arithmetic.specs.declared.Sum.{Sum}
 use Rattle.arithmetic.specs.Flags.{CF, IE, ZF, has_flag, set_flag, with_flags}
 use Rattle.arithmetic.specs.Logic.{lda_of, and_of, ora_of, eor_of, bit_test_of, tta_of}
-use Rattle.arithmetic.specs.Record.{with_a, with_t, with_x, with_y, with_u, with_s, with_p, with_is_halted, with_pu, with_pv, with_bf, with_disp, with_tm, with_ir0, with_ir1, with_ir2, with_is_timer_reached, with_timer_state, with_step_previous_state, with_ticks}
+use Rattle.arithmetic.specs.Record.{with_a, with_t, with_x, with_y, with_u, with_s, with_p, with_is_halted, with_pu, with_pv, with_bf, with_disp, with_tm, with_ir1, with_is_timer_reached, with_timer_state, with_step_previous_state, with_ticks}
 use Rattle.arithmetic.specs.Sums.{add_of, inverted, carry_of, with_sum, adc_of, sbc_of, cpa_of, adr_of}
 use Rattle.arithmetic.specs.Decimal.{plus66, decimal_sum_of, dca_sum, dcs_sum, dca_of, dcs_of}
 use Rattle.arithmetic.specs.Shifts.{left_of, right_of}
@@ -234,17 +234,9 @@ module _ (m : Lh5801) where
   unfolding with_is_halted
   times_halted v = record { tm = refl; ticks = refl }
 
-  pub times_ir0 : (v : Bool) → SameTimes m (with_ir0 m v)
-  unfolding with_ir0
-  times_ir0 v = record { tm = refl; ticks = refl }
-
   pub times_ir1 : (v : Bool) → SameTimes m (with_ir1 m v)
   unfolding with_ir1
   times_ir1 v = record { tm = refl; ticks = refl }
-
-  pub times_ir2 : (v : Bool) → SameTimes m (with_ir2 m v)
-  unfolding with_ir2
-  times_ir2 v = record { tm = refl; ticks = refl }
 
   pub times_reached : (v : Bool) → SameTimes m (with_is_timer_reached m v)
   unfolding with_is_timer_reached

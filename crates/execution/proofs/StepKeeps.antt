@@ -2,8 +2,8 @@
 use Rattle.std.proofs.Common.{◌≡◌, ℕ, ◌+◌, ◌%◌, ◌^◌, ◌<◌, Bool, true, false, not, eqb, refl, ap, ◌∙◌, add-zero, arith}
 use Rattle.arithmetic.specs.declared.record.Lh5801.{Lh5801}
 use Rattle.execution.specs.declared.Inputs.{Inputs}
-use Rattle.arithmetic.specs.Record.{with_p, with_ir1}
-use Rattle.arithmetic.proofs.Status.{Status, SameTimes, p_keeps, keeps_p, times_ir0, times_ir1, times_ir2, times_reached, times_status, times_then}
+use Rattle.arithmetic.specs.Record.{with_p, with_ir0, with_ir1, with_ir2}
+use Rattle.arithmetic.proofs.Status.{Status, SameTimes, p_keeps, keeps_p, times_ir1, times_reached, times_status, times_then}
 use Rattle.pages.specs.Pages.{Pages}
 use Rattle.pages.specs.Stack.{accept_of}
 use Rattle.pages.specs.Prog.{exec}
@@ -38,9 +38,10 @@ added_any_p m p i = rw (taken_any_p m p (adds_of i))
 
 -- an interrupt's request cleared leaves the counters
 times_cleared : (m : Lh5801) (i : Interrupt) → SameTimes m (cleared m i)
-times_cleared m Ir0 = times_ir0 m false
-times_cleared m Ir1 = times_ir1 m false
-times_cleared m Ir2 = times_ir2 m false
+unfolding with_ir0 with_ir1 with_ir2
+times_cleared m Ir0 = record { tm = refl; ticks = refl }
+times_cleared m Ir1 = record { tm = refl; ticks = refl }
+times_cleared m Ir2 = record { tm = refl; ticks = refl }
 
 -- the counters after e states
 abbrev Counted : Lh5801 → ℕ → Lh5801 → Type 0

@@ -1,13 +1,13 @@
 /*
- * The line that IE does not mask: the README's column routine, with IE clear, in whose midst the host
- * sees the supply drop and asks for IR0. The vector at FFFC leads to 0100, where a routine sets bit 0
- * of the byte at 0200 and returns; the column goes on, and its total is the same. Document 01's line
- * is printed before the entry, after it, and at the end, and then the byte at 0200. It prints
+ * The line that IE does not mask: while the README's column routine runs, with IE clear, the host
+ * asks for IR0, as the supply drops. The vector at FFFC leads to 0100, where a routine sets bit 0 of
+ * the byte at 0200 and returns; the column goes on. Document 01's line is printed before the entry,
+ * after it, and at the end, and then the byte at 0200 and the total at 0014. It prints
  *
  *   0 10 79 00 15 0014 0017 0001 03FF 0005 000 008 79 47 79
  *   0 1 0 00 15 0014 0017 0001 03FC 0100 000 008 79 47 79
  *   7 14 139 03 11 0013 0016 0000 03FF 0014 000 009 218 192 218
- *   01
+ *   01 00 00 03
  *
  *   cc -I include examples/undervoltage.c crates/lh5801/out/liblh5801.a -o undervoltage && ./undervoltage
  */
@@ -44,6 +44,6 @@ int main(void)
     print_line(words);
     lh5801_run(words, page0, sizeof page0, &nothing, 0, 0, 100);
     print_line(words);
-    printf("%02X\n", page0[0x0200]);
+    printf("%02X %02X %02X %02X\n", page0[0x0200], page0[0x0014], page0[0x0015], page0[0x0016]);
     return words[LH5801_NUMBER] == LH5801_STOPPED_HALTED && page0[0x0200] == 1 ? 0 : 1;
 }

@@ -56,11 +56,15 @@
  * The interrupts
  *
  * A caller asks for an interrupt by a flag of the record, LH5801_IR0, LH5801_IR1 or LH5801_IR2, and
- * timer reached asks for IR1. With BF set a step enters the first of these that it finds: IR0,
- * whether IE is set or not (F-6); IR1, with IE set; IR2, with IE set. T is pushed as it is, IE and
- * the interrupt's own flag are cleared, P is pushed, low byte first, P is read at FFFC for IR0, FFFA
- * for IR1 or FFF8 for IR2, halted is cleared, no states are added, and the timer part is done. What
- * else was asked for stays. With BF clear nothing is entered, and every flag stays.
+ * the unit's timer by timer reached, which becomes IR1 in the next step with BF set. With BF set a
+ * step enters the first of these that it finds: IR0, whether IE is set or not (F-6); IR1, with IE
+ * set; IR2, with IE set. T is pushed as it is, IE and the interrupt's own flag are cleared, P is
+ * pushed, low byte first, P is read at FFFC for IR0, FFFA for IR1 or FFF8 for IR2, high byte first,
+ * halted is cleared, no states are added, and the timer part is done. The vector is read after the
+ * pushes, so what they stored may be the vector. The other two flags stay.
+ *
+ * With BF clear nothing is entered, and all flags stay. No step sets IR0: where it comes back set, no
+ * step was done, or BF was clear.
  *
  * The settings
  *

@@ -1,5 +1,5 @@
 -- What decides whether an instruction is due, and what counts time, over the operations on the registers.
-use Rattle.std.proofs.Common.{◌≡◌, ℕ, ◌-◌, ◌*◌, ◌/◌, ◌%◌, Bool, true, false, eqb, refl, ap, ◌∙◌, arith}
+use Rattle.std.proofs.Common.{◌≡◌, ℕ, ◌-◌, ◌*◌, ◌/◌, ◌%◌, Bool, true, false, eqb, sym, refl, ap, ◌∙◌, arith}
 use lib.Bits.{bit_and, bit_or, bit_xor, and_high, and_mask, and_shr, and_mod, or_shr, or_mod, or_zero_r}
 use Rattle.arithmetic.specs.declared.record.Lh5801.{Lh5801}
 use Rattle.arithmetic.specs.declared.Sum.{Sum}
@@ -80,16 +80,11 @@ with_timer s tm reached = record s { tm = tm; reached = reached }
 abbrev pub status_with_ticks : Status → ℕ → Status
 status_with_ticks s n = record s { ticks = n }
 
--- k has m's TM and ticks
-pub record SameTimes (m k : Lh5801) : Type 0 where
+-- k has m's TM and ticks, and IR0 set only where m has it set
+pub record Steady (m k : Lh5801) : Type 0 where
   pub tm : k.tm ≡ m.tm
   pub ticks : k.ticks ≡ m.ticks
-
--- k has IR1 and timer reached as given, and else m's status, T and P
-pub record Requested (m : Lh5801) (ir1 reached : Bool) (k : Lh5801) : Type 0 where
-  pub is : status_of k ≡ record (status_of m) { ir1 = ir1; reached = reached }
-  pub t : k.t ≡ m.t
-  pub p : k.p ≡ m.p
+  pub ir0 : k.ir0 ≡ true → m.ir0 ≡ true
 
 module _ (m : Lh5801) where
   -- setting a register, a line to the outside, or the timer's states keeps the status
@@ -221,48 +216,35 @@ module _ (m : Lh5801) where
   unfolding adr_of
   keeps_adr reg a = keeps_t m m.t refl refl
 
-  -- what may change the rest of the status keeps TM and the ticks
-  pub times_t : (v : ℕ) → SameTimes m (with_t m v)
+  -- what may change the rest of the status keeps TM and the ticks, and sets no IR0
+  pub steady_t : (v : ℕ) → Steady m (with_t m v)
   unfolding with_t
-  times_t v = record { tm = refl; ticks = refl }
+  steady_t v = record { tm = refl; ticks = refl; ir0 = λ e. e }
 
-  pub times_bf : (v : Bool) → SameTimes m (with_bf m v)
+  pub steady_bf : (v : Bool) → Steady m (with_bf m v)
   unfolding with_bf
-  times_bf v = record { tm = refl; ticks = refl }
+  steady_bf v = record { tm = refl; ticks = refl; ir0 = λ e. e }
 
-  pub times_halted : (v : Bool) → SameTimes m (with_is_halted m v)
+  pub steady_halted : (v : Bool) → Steady m (with_is_halted m v)
   unfolding with_is_halted
-  times_halted v = record { tm = refl; ticks = refl }
+  steady_halted v = record { tm = refl; ticks = refl; ir0 = λ e. e }
 
-  pub times_ir1 : (v : Bool) → SameTimes m (with_ir1 m v)
+  pub steady_ir1 : (v : Bool) → Steady m (with_ir1 m v)
   unfolding with_ir1
-  times_ir1 v = record { tm = refl; ticks = refl }
+  steady_ir1 v = record { tm = refl; ticks = refl; ir0 = λ e. e }
 
-  pub times_reached : (v : Bool) → SameTimes m (with_is_timer_reached m v)
+  pub steady_reached : (v : Bool) → Steady m (with_is_timer_reached m v)
   unfolding with_is_timer_reached
-  times_reached v = record { tm = refl; ticks = refl }
-
-  -- IR1 and timer reached set: the rest of the status, T and P stay
-  pub requested : (ir1 reached : Bool) → Requested m ir1 reached (with_is_timer_reached (with_ir1 m ir1) reached)
-  unfolding with_ir1 with_is_timer_reached
-  requested ir1 reached = record { is = refl; t = refl; p = refl }
-
-  -- IR1 and timer reached set and set back, and set to what they were
-  pub requested_back : (ir1 reached : Bool) → with_is_timer_reached (with_ir1 (with_is_timer_reached (with_ir1 m ir1) reached) m.ir1) m.is_timer_reached ≡ m
-  unfolding with_ir1 with_is_timer_reached
-  requested_back ir1 reached = refl
-
-  pub requested_same : with_is_timer_reached (with_ir1 m m.ir1) m.is_timer_reached ≡ m
-  unfolding with_ir1 with_is_timer_reached
-  requested_same = refl
+  steady_reached v = record { tm = refl; ticks = refl; ir0 = λ e. e }
 
   -- P changes neither T nor U
   pub p_keeps : (v : ℕ) → ((with_p m v).t ≡ m.t) × ((with_p m v).u ≡ m.u)
   unfolding with_p
   p_keeps v = (refl, refl)
 
-pub times_status : (m k : Lh5801) → status_of k ≡ status_of m → SameTimes m k
-times_status m k e = record { tm = ap (λ (s : Status). s.tm) e; ticks = ap (λ (s : Status). s.ticks) e }
+pub steady_status : (m k : Lh5801) → status_of k ≡ status_of m → Steady m k
+steady_status m k e =
+    record { tm = ap (λ (s : Status). s.tm) e; ticks = ap (λ (s : Status). s.ticks) e; ir0 = λ h. sym (ap (λ (s : Status). s.ir0) e) ∙ h }
 
-pub times_then : {l m n : Lh5801} → SameTimes l m → SameTimes m n → SameTimes l n
-times_then p q = record { tm = q.tm ∙ p.tm; ticks = q.ticks ∙ p.ticks }
+pub steady_then : {l m n : Lh5801} → Steady l m → Steady m n → Steady l n
+steady_then p q = record { tm = q.tm ∙ p.tm; ticks = q.ticks ∙ p.ticks; ir0 = λ h. p.ir0 (q.ir0 h) }

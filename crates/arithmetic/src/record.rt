@@ -29,7 +29,7 @@ pub struct Lh5801 {
     pub disp: bool,
     /// timer value, 0 to 511: TM
     pub tm: u16,
-    /// interrupt requests: IR0 (not maskable), IR1 (timer), IR2 (maskable)
+    /// interrupt requests: IR0, which IE does not mask, IR1, which the timer makes too, and IR2
     pub ir0: bool,
     pub ir1: bool,
     pub ir2: bool,

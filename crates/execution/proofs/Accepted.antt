@@ -6,31 +6,25 @@ use Rattle.arithmetic.specs.Flags.{IE, has_flag}
 use Rattle.execution.specs.declared.interrupts.Interrupt.{Interrupt}
 use Rattle.execution.specs.declared.interrupts.Interrupt.TheVariants.{Ir0, Ir1, Ir2}
 use Rattle.execution.specs.Interrupts.{accepted}
-use Rattle.execution.specs.Entered.{NoneAccepted}
+use Rattle.execution.specs.Entered.{Selects, NoneAccepted}
 
--- with `l` for IR1 or timer reached, and `e` for IE
+-- by IR0, `l` for IR1 or timer reached, IR2, and `e` for IE
 abbrev by_lines : Bool → Bool → Bool → Bool → Option Interrupt
 by_lines ir0 l ir2 e = cond ir0 (Some Ir0) (cond (l && e) (Some Ir1) (cond (ir2 && e) (Some Ir2) None))
 
--- the lines of each
-abbrev pub Lines : Interrupt → Bool → Bool → Bool → Bool → Type 0
-Lines Ir0 ir0 l ir2 e = ir0 ≡ true
-Lines Ir1 ir0 l ir2 e = (ir0 ≡ false) × (l ≡ true) × (e ≡ true)
-Lines Ir2 ir0 l ir2 e = (ir0 ≡ false) × (l ≡ false) × (ir2 ≡ true) × (e ≡ true)
+selected_only : (ir0 l ir2 e : Bool) (i : Interrupt) → by_lines ir0 l ir2 e ≡ Some i → Selects i ir0 l ir2 e
+selected_only true l ir2 e i a = let z : Ir0 ≡ i = cc in subst (λ j. Selects j true l ir2 e) z refl
+selected_only false true ir2 true i a = let z : Ir1 ≡ i = cc in subst (λ j. Selects j false true ir2 true) z (refl, refl, refl)
+selected_only false false true true i a = let z : Ir2 ≡ i = cc in subst (λ j. Selects j false false true true) z (refl, refl, refl, refl)
+selected_only false true true false i a = absurd cc
+selected_only false true false false i a = absurd cc
+selected_only false false true false i a = absurd cc
+selected_only false false false e i a = absurd cc
 
-lines_only : (ir0 l ir2 e : Bool) (i : Interrupt) → by_lines ir0 l ir2 e ≡ Some i → Lines i ir0 l ir2 e
-lines_only true l ir2 e i a = let z : Ir0 ≡ i = cc in subst (λ j. Lines j true l ir2 e) z refl
-lines_only false true ir2 true i a = let z : Ir1 ≡ i = cc in subst (λ j. Lines j false true ir2 true) z (refl, refl, refl)
-lines_only false false true true i a = let z : Ir2 ≡ i = cc in subst (λ j. Lines j false false true true) z (refl, refl, refl, refl)
-lines_only false true true false i a = absurd cc
-lines_only false true false false i a = absurd cc
-lines_only false false true false i a = absurd cc
-lines_only false false false e i a = absurd cc
-
-lines_accepted : (ir0 l ir2 e : Bool) (i : Interrupt) → Lines i ir0 l ir2 e → by_lines ir0 l ir2 e ≡ Some i
-lines_accepted ir0 l ir2 e Ir0 p = rw p
-lines_accepted ir0 l ir2 e Ir1 p = rw (p.0, p.1, p.2)
-lines_accepted ir0 l ir2 e Ir2 p = rw (p.0, p.1, p.2, p.3)
+selected_accepted : (ir0 l ir2 e : Bool) (i : Interrupt) → Selects i ir0 l ir2 e → by_lines ir0 l ir2 e ≡ Some i
+selected_accepted ir0 l ir2 e Ir0 p = rw p
+selected_accepted ir0 l ir2 e Ir1 p = rw (p.0, p.1, p.2)
+selected_accepted ir0 l ir2 e Ir2 p = rw (p.0, p.1, p.2, p.3)
 
 none_only : (ir0 l ir2 e : Bool) → by_lines ir0 l ir2 e ≡ None → (ir0 ≡ false) × ((l || ir2) && e ≡ false)
 none_only true l ir2 e a = absurd cc
@@ -57,9 +51,9 @@ module _ (m : Lh5801) where
   abbrev enabled : Bool
   enabled = has_flag m.t IE
 
-  -- one is accepted exactly where its lines are as they must be
-  pub accepted_is : (i : Interrupt) → (accepted m ≡ Some i) ↔ Lines i m.ir0 (m.ir1 || m.is_timer_reached) m.ir2 (has_flag m.t IE)
-  accepted_is i = (lines_only m.ir0 first m.ir2 enabled i, lines_accepted m.ir0 first m.ir2 enabled i)
+  -- one is accepted exactly where they select it
+  pub accepted_is : (i : Interrupt) → (accepted m ≡ Some i) ↔ Selects i m.ir0 (m.ir1 || m.is_timer_reached) m.ir2 (has_flag m.t IE)
+  accepted_is i = (selected_only m.ir0 first m.ir2 enabled i, selected_accepted m.ir0 first m.ir2 enabled i)
 
   -- none is accepted exactly where IR0 is clear, and IE or all other requests are
   pub none_accepted : (accepted m ≡ None) ↔ NoneAccepted m

@@ -1,7 +1,7 @@
 -- The accesses that specs/Code/Shapes.antt computes ahead of a step are those that the step makes.
 use Rattle.std.proofs.Common.{◌≡◌, ℕ, ◌+◌, ◌/◌, ◌%◌, ◌≤◌, Bool, true, false, cond, eqb, List, [], ◌∷◌, ◌++◌, length, sym, refl, ap, ◌∙◌, append-nil, true≢false, arith}
 use Rattle.arithmetic.specs.declared.record.Lh5801.{Lh5801}
-use Rattle.arithmetic.specs.Record.{with_p, with_s, with_t, with_ir0, with_ir1, with_ir2, with_is_timer_reached}
+use Rattle.arithmetic.specs.Record.{with_p, with_s, with_t, with_ir0, with_ir1, with_ir2}
 use Rattle.pages.specs.declared.Code.{Code}
 use Rattle.pages.specs.Pages.{Pages, at, store, SameLayout}
 use Rattle.pages.specs.Prog.{Prog, done, ◌>>=◌, read, write, Access, read_of, after, exec}
@@ -36,7 +36,7 @@ use Rattle.execution.specs.Completed.{of_completed, completed_accesses}
 use Rattle.execution.specs.Code.Shapes.{opcode_at, bytes_from, after_write, after_push_word, vector_accesses, accept_accesses, place_accesses, vector_if_accesses, shape_accesses, operand_shape, store_shape, shape_of, shape_in, shape_by, opcode_accesses, fetched_accesses, instruction_accesses, powered_accesses, step_accesses}
 use Rattle.execution.proofs.Choices.{cond_both}
 use Rattle.execution.proofs.OpcodeRead.{fetch_answer, fetch_pages}
-use Rattle.execution.proofs.Ways.{moved}
+use Rattle.execution.proofs.TimerReached.{reached_fields, reached_accepted}
 use Rattle.execution.proofs.Accesses.{step_accesses_lem}
 use Rattle.execution.proofs.DueTest.{stops_before_is}
 use Rattle.execution.proofs.WithoutStop.{step_same}
@@ -195,16 +195,18 @@ module _ (inputs : Inputs) (pages : Pages) where
       completed_cond pages m.is_halted _ _
       ∙ cond_each m.is_halted (halted_accesses m (without_stop inputs) pages) (instruction_accesses_lem m (without_stop inputs) pages)
 
-  reached_accesses : (m : Lh5801) (r : Bool) (a : Option Interrupt)
-      → completed_accesses (exec (powered_of (cond r (moved m) m) (without_stop inputs) a) pages) ≡ powered_accesses m pages a
-  unfolding instruction_accesses locate_of with_ir1 with_is_timer_reached with_p
-  reached_accesses m true (Some i) = powered_accesses_lem (moved m) (Some i)
-  reached_accesses m true None = powered_accesses_lem (moved m) None
-  reached_accesses m false a = powered_accesses_lem m a
+  -- and after timer reached has moved, which changes no access
+  reached_accesses : (m : Lh5801) (a : Option Interrupt)
+      → completed_accesses (exec (powered_of (reached_of m) (without_stop inputs) a) pages) ≡ powered_accesses m pages a
+  unfolding instruction_accesses locate_of with_p
+  reached_accesses m (Some i) = powered_accesses_lem (reached_of m) (Some i) ∙ rw (reached_fields m)
+  reached_accesses m None = powered_accesses_lem (reached_of m) None ∙ rw (reached_fields m)
 
   unaddressed_accesses : (m : Lh5801) → completed_accesses (exec (step_of m (without_stop inputs)) pages) ≡ step_accesses m pages
-  unfolding step_of reached_of exec
-  unaddressed_accesses m = completed_cond pages m.bf _ _ ∙ cond_each m.bf (reached_accesses m m.is_timer_reached (accepted m)) refl
+  unfolding step_of exec
+  unaddressed_accesses m =
+      completed_cond pages m.bf _ _
+      ∙ cond_each m.bf (ap (λ (a : Option Interrupt). completed_accesses (exec (powered_of (reached_of m) (without_stop inputs) a) pages)) (reached_accepted m) ∙ reached_accesses m (accepted m)) refl
 
 -- the accesses of a completed step, and none of one that stops, are those computed ahead, whatever the inputs, where the step does not stop before an address
 pub step_accesses_ahead : (m : Lh5801) (inputs : Inputs) (pages : Pages) → stops_before_of m inputs ≡ false

@@ -6,7 +6,7 @@ use Rattle.arithmetic.specs.declared.record.Lh5801.{Lh5801}
 use Rattle.arithmetic.specs.Record.{with_t, with_x, with_s, with_p, with_tm}
 use Rattle.arithmetic.specs.Shifts.{looped_of}
 use Rattle.arithmetic.specs.Sums.{carry_of}
-use Rattle.arithmetic.proofs.Status.{Enabled, z_enable, c_enable, add_enable, Status, status_of, with_timer, status_with_ticks, SameTimes, keeps_a, keeps_x, keeps_y, keeps_u, keeps_s, keeps_p, keeps_pu, keeps_pv, keeps_disp, keeps_previous, keeps_t, keeps_add, keeps_adc, keeps_sbc, keeps_cpa, keeps_dca, keeps_dcs, keeps_lda, keeps_and, keeps_ora, keeps_eor, keeps_bit, keeps_left, keeps_right, keeps_tta, keeps_adr, status_tm, times_t, times_bf, times_halted, times_status, times_then}
+use Rattle.arithmetic.proofs.Status.{Enabled, z_enable, c_enable, add_enable, Status, status_of, with_timer, status_with_ticks, Steady, keeps_a, keeps_x, keeps_y, keeps_u, keeps_s, keeps_p, keeps_pu, keeps_pv, keeps_disp, keeps_previous, keeps_t, keeps_add, keeps_adc, keeps_sbc, keeps_cpa, keeps_dca, keeps_dcs, keeps_lda, keeps_and, keeps_ora, keeps_eor, keeps_bit, keeps_left, keeps_right, keeps_tta, keeps_adr, status_tm, steady_t, steady_bf, steady_halted, steady_status, steady_then}
 use Rattle.pages.specs.Prog.{done}
 use Rattle.pages.specs.Stack.{push_of, push_word_of, pop_of}
 use Rattle.pages.specs.Timer.{add_state_of}
@@ -40,10 +40,12 @@ use Rattle.execution.specs.Instructions.{operated, changed_of, alu_of, store_of,
 use Rattle.execution.specs.States.{amount, branch, added_of}
 use Rattle.execution.specs.Code.Due.{due_by, due_of, settled_on_a, settled_signal, settled_of}
 
--- m before and k after: TM stays at most 511, the ticks gain e, and after a settled instruction one is due where it was
+-- m before and k after: TM stays at most 511, the ticks gain e, IR0 is set only where it was, and after a settled instruction one is due where it
+-- was
 pub record Effect (m : Lh5801) (e : ℕ) (settled : Bool) (k : Lh5801) : Type 0 where
   pub small : m.tm < 512 → k.tm < 512
   pub ticks : k.ticks % 2 ^ 64 ≡ (m.ticks + e) % 2 ^ 64
+  pub ir0 : k.ir0 ≡ true → m.ir0 ≡ true
   pub due : settled ≡ true → due_of k ≡ due_of m
   pub reached : settled ≡ true → k.is_timer_reached ≡ m.is_timer_reached
 
@@ -60,6 +62,7 @@ module _ (m : Lh5801) where
       record {
         small = λ l. subst (λ (n : ℕ). n < 512) (sym (ap (λ (x : Status). x.tm) s)) (h l);
         ticks = ap (λ (x : Status). x.ticks % 2 ^ 64) s ∙ c;
+        ir0 = λ z. sym (ap (λ (x : Status). x.ir0) s) ∙ z;
         due = λ _. ap due_in s;
         reached = λ _. ap (λ (x : Status). x.reached) s;
       }
@@ -76,11 +79,12 @@ module _ (m : Lh5801) where
   timed : {b : Bool} (v : ℕ) → v < 512 → Effect m 0 b (with_tm m v)
   timed v h = effect (with_tm m v) v m.ticks 0 (status_tm m v) (λ _. h) (omega arith)
 
-  unsettled : (k : Lh5801) → SameTimes m k → Effect m 0 false k
+  unsettled : (k : Lh5801) → Steady m k → Effect m 0 false k
   unsettled k t =
       record {
         small = λ l. rw t.tm l;
         ticks = omega (arith, t.ticks);
+        ir0 = t.ir0;
         due = λ e. absurd (false≢true e);
         reached = λ e. absurd (false≢true e);
       }
@@ -132,7 +136,7 @@ module _ (m : Lh5801) where
   effect_signal Pv v = kept _ (keeps_pv m v)
   effect_signal Disp v = kept _ (keeps_disp m v)
   effect_signal CarryFlag v = kept _ (keeps_t m m _ refl (c_enable m.t v))
-  effect_signal InterruptEnable v = unsettled _ (times_t m _)
+  effect_signal InterruptEnable v = unsettled _ (steady_t m _)
 
   effect_on_a : (o : Accumulator) (key : ℕ) → Effect m 0 (settled_on_a o) (on_aOf m o key)
   effect_on_a IncA key = kept _ (keeps_add m m.a 1 false)
@@ -143,7 +147,7 @@ module _ (m : Lh5801) where
   effect_on_a Rol key = kept _ (keeps_left m (carry_of m))
   effect_on_a Aex key = kept _ (keeps_a m _)
   effect_on_a Tta key = kept _ (keeps_tta m)
-  effect_on_a Att key = unsettled _ (times_t m _)
+  effect_on_a Att key = unsettled _ (steady_t m _)
   effect_on_a Ita key = kept _ (keeps_lda m key)
   effect_on_a Am0 key = timed _ (omega arith)
   effect_on_a Am1 key = timed _ (omega arith)
@@ -220,7 +224,7 @@ executed m inputs Sjp = always_then _ _ _ (λ w. always_bind _ _ _ _ (push_word_
 executed m inputs Rtn = always_then _ _ _ (λ w. kept m _ (keeps_s (with_p m w.value) _ ∙ keeps_p m _))
 executed m inputs Rti =
     always_then _ _ _ (λ w. always_then _ _ _ (λ t. unsettled m _
-    (times_then (times_status m (with_s (with_p m w.value) _) (keeps_s (with_p m w.value) _ ∙ keeps_p m _)) (times_t _ t))))
+    (steady_then (steady_status m (with_s (with_p m w.value) _) (keeps_s (with_p m w.value) _ ∙ keeps_p m _)) (steady_t _ t))))
 executed m inputs LoadS = always_then _ _ _ (λ w. kept m _ (keeps_p (with_s m w.value) _ ∙ keeps_s m _))
 executed m inputs Tin = always_then _ _ _ (λ b. always_then _ _ _ (λ _. kept m _ (keeps_y (with_x m _) _ ∙ keeps_x m _)))
 executed m inputs Cin = always_then _ _ _ (λ b. kept m _ (keeps_cpa (with_x m _) _ _ ∙ keeps_x m _))
@@ -234,7 +238,7 @@ executed m inputs (ToX w) = kept m _ (keeps_to_x m w)
 executed m inputs (FromX w) = kept m _ (keeps_from_x m w)
 executed m inputs DropWord = kept m _ (keeps_s m _)
 executed m inputs (Adr r) = kept m _ (keeps_word (with_t m _) r _ ∙ keeps_adr m _ _)
-executed m inputs Off = unsettled m _ (times_bf m false)
-executed m inputs Hlt = unsettled m _ (times_halted m true)
+executed m inputs Off = unsettled m _ (steady_bf m false)
+executed m inputs Hlt = unsettled m _ (steady_halted m true)
 executed m inputs Cdv = kept m _ (keeps_previous m _)
 executed m inputs Nop = kept m m refl

@@ -1,13 +1,15 @@
--- Which interrupt a step enters, and what the entry leaves, field by field.
-use Rattle.std.proofs.Common.{◌≡◌, ℕ, Bool, true, false, ◌||◌, ◌↔◌, sym, refl, ap, ◌∙◌, subst}
+-- Which interrupt a step enters, and what the entry leaves, field by field; and that no step sets IR0.
+use Rattle.std.proofs.Common.{◌≡◌, ℕ, Bool, true, false, ◌||◌, ◌↔◌, sym, refl, ap, ◌∙◌, subst, true≢false}
 use Rattle.std.specs.Prelude.{Option, Some, None}
 use Rattle.arithmetic.specs.declared.record.Lh5801.{Lh5801}
 use Rattle.arithmetic.specs.Record.{with_t, with_s, with_p, with_is_halted, with_ir0, with_ir1, with_ir2}
+use Rattle.arithmetic.proofs.Status.{Status}
 use Rattle.pages.specs.Pages.{Pages}
 use Rattle.pages.specs.Prog.{◌>>=◌, read, write, after, exec}
 use Rattle.pages.specs.Stack.{mem16_of, push_of, push_word_of, push_state_of, accept_of}
 use Rattle.pages.specs.Timer.{timer_part_of}
 use Rattle.pages.proofs.Always.{Always, always_then}
+use Rattle.pages.proofs.Timer.{timer_part_status}
 use Rattle.execution.specs.declared.Inputs.{Inputs}
 use Rattle.execution.specs.declared.instructions.Listed.{Listed}
 use Rattle.execution.specs.declared.Opcode.{Opcode}
@@ -20,17 +22,12 @@ use Rattle.execution.specs.Step.{Kind, off, interrupt, waiting, instruction, Ste
 use Rattle.execution.specs.Entered.{Enters, entered_of, Entered}
 use Rattle.execution.proofs.Choices.{cond_false}
 use Rattle.execution.proofs.Accepted.{accepted_is}
+use Rattle.execution.proofs.StepKeeps.{step_ir0}
 use Rattle.execution.proofs.Tests.{powered_step, interrupt_step}
-use Rattle.execution.proofs.Waiting.{asked, reached_fields}
+use Rattle.execution.proofs.TimerReached.{asked, reached_fields}
 use Rattle.execution.proofs.Ways.{Did, did_exec, powered_ways}
 
 module _ (m : Lh5801) where
-  -- the lines of the interrupt that a step enters
-  enters_lines : (i : Interrupt) → Enters m i ↔ ((m.bf ≡ true) × (accepted m ≡ Some i))
-  enters_lines Ir0 = (λ e. (e.0, (accepted_is m Ir0).1 e.1), λ e. (e.0, (accepted_is m Ir0).0 e.1))
-  enters_lines Ir1 = (λ e. (e.0, (accepted_is m Ir1).1 (e.1, e.2, e.3)), λ e. let l = (accepted_is m Ir1).0 e.1 in (e.0, l.0, l.1, l.2))
-  enters_lines Ir2 = (λ e. (e.0, (accepted_is m Ir2).1 (e.1, e.2, e.3, e.4)), λ e. let l = (accepted_is m Ir2).0 e.1 in (e.0, l.0, l.1, l.2, l.3))
-
   -- a step is of an interrupt's kind only from such a record
   abbrev FromLines : Kind → Type 0
   FromLines off = Unit {0}
@@ -63,7 +60,7 @@ module _ (m : Lh5801) where
         go false b = subst (Always EntersOnly) (sym (cond_false m.bf _ _ b)) tt
         go true b =
             subst (Always EntersOnly) (sym (powered_step m inputs b (accepted m) refl))
-            (powered_ways (Always EntersOnly) (reached_of m) inputs (accepted m) (λ i e. only_interrupt (reached_of m) i ((enters_lines i).1 (b, e))) tt tt tt
+            (powered_ways (Always EntersOnly) (reached_of m) inputs (accepted m) (λ i e. only_interrupt (reached_of m) i (record { on = b; selected = (accepted_is m i).0 e })) tt tt tt
             (only_instruction (reached_of m)))
 
   module _ (pages : Pages) where
@@ -76,9 +73,7 @@ module _ (m : Lh5801) where
     module _ (inputs : Inputs) where
       -- what the entry leaves
       pub enters : (i : Interrupt) → Enters m i → Entered i m pages (exec (step_of m inputs) pages)
-      enters i e =
-          let a = (enters_lines i).0 e in
-          rw (interrupt_step m inputs a.0 i a.1, reached_fields m) (entry i)
+      enters i e = rw (interrupt_step m inputs e.on i ((accepted_is m i).1 e.selected), reached_fields m) (entry i)
 
       -- a step is an entry of this interrupt, with this record and these states, exactly from such a record and where it is that record and they are 0
       pub interrupt_kind : (i : Interrupt) (k : Lh5801) (s : ℕ)
@@ -92,3 +87,23 @@ module _ (m : Lh5801) where
             (l, record_is, states_are),
         λ r. (enters i r.0).answer ∙ sym (ap (λ (l : Lh5801). did l s (interrupt i)) r.1 ∙ ap (λ (n : ℕ). did (timer_part_of (entered_of m pages i)) n (interrupt i)) r.2),
       )
+
+      -- no step sets IR0: after a completed one it is set only where BF is clear and it was set before
+      pub ir0_left : (k : Lh5801) (s : ℕ) (kind : Kind) → (exec (step_of m inputs) pages).answer ≡ did k s kind → k.ir0 ≡ true
+          → (m.bf ≡ false) × (m.ir0 ≡ true)
+      unfolding entered_of with_ir0
+      ir0_left k s kind e z = (go m.bf refl, before)
+        where
+          before : m.ir0 ≡ true
+          before = step_ir0 m inputs pages k s kind e z
+
+          clear : (timer_part_of (entered_of m pages Ir0)).ir0 ≡ false
+          clear = ap (λ (x : Status). x.ir0) (timer_part_status (entered_of m pages Ir0))
+
+          go : (b : Bool) → m.bf ≡ b → m.bf ≡ false
+          go false b = b
+          go true b =
+              let same : did (timer_part_of (entered_of m pages Ir0)) 0 (interrupt Ir0) ≡ did k s kind =
+              sym (enters Ir0 (record { on = b; selected = before })).answer ∙ e in
+              let record_is : timer_part_of (entered_of m pages Ir0) ≡ k = cc in
+              absurd (true≢false (sym (ap (λ (l : Lh5801). l.ir0) record_is ∙ z) ∙ clear))

@@ -4,6 +4,7 @@ pub mod Order
 pub mod Choices
 pub mod Effects
 pub mod Ways
+pub mod TimerReached
 pub mod Accepted
 pub mod DueTest
 pub mod StopAddress

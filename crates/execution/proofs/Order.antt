@@ -5,10 +5,8 @@ use Rattle.arithmetic.specs.declared.record.Lh5801.{Lh5801}
 use Rattle.execution.specs.declared.Inputs.{Inputs}
 use Rattle.arithmetic.specs.declared.Looped.{Looped}
 use Rattle.arithmetic.specs.Shifts.{looped_of}
-use Rattle.arithmetic.specs.Record.{with_u, with_p, with_ir1, with_is_timer_reached}
-use Rattle.arithmetic.specs.Flags.{IE, has_flag}
+use Rattle.arithmetic.specs.Record.{with_u, with_p}
 use Rattle.pages.specs.declared.Memory.{Memory}
-use Rattle.arithmetic.proofs.Status.{Status, requested, requested_back, requested_same}
 use Rattle.pages.specs.Prog.{done, mapped}
 use Rattle.pages.specs.Contract.{Does}
 use Rattle.pages.specs.Stack.{accept_of}
@@ -28,12 +26,12 @@ use Rattle.execution.specs.Instructions.{branched_of, execute_of}
 use Rattle.execution.specs.States.{added_of}
 use Rattle.execution.specs.Step.{off, interrupt, instruction, StepEnd, did, stopped, fetch_of, decoded_by, decoded_step_of, instruction_of, interrupt_of, reached_of, halted_of, due_instruction_of, powered_of, step_of}
 use Rattle.execution.specs.Code.Outcomes.{outcome_of}
-use Rattle.execution.specs.Code.Due.{due_by, due_of, Ready, settled_of, settled_by, executed_of}
-use Rattle.execution.proofs.Effects.{due_in}
+use Rattle.execution.specs.Code.Due.{due_of, Ready, settled_of, settled_by, executed_of}
 use Rattle.execution.proofs.Choices.{cond_both, cond_false}
 use Rattle.execution.specs.declared.interrupts.Interrupt.{Interrupt}
 use Rattle.execution.specs.Interrupts.{accepted, cleared, vector_address}
 use Rattle.execution.specs.Inputs.{stops_at}
+use Rattle.execution.proofs.TimerReached.{reached_stays, reached_accepted, reached_ready}
 use Rattle.execution.proofs.Tests.{interrupt_step, halting_step, due_step, fetching_step}
 use Rattle.execution.proofs.DueTest.{due_is}
 use Rattle.execution.proofs.StopAddress.{elsewhere_is}
@@ -45,58 +43,19 @@ LoopEnd m p offset r l = r ≡ cond l.again (branched_of (with_u m l.u) p offset
 pub loop_end : (m : Lh5801) (p offset : ℕ) {l : Looped} {r : Lh5801} → l ≡ looped_of m.u → LoopEnd m p offset r l → LoopEnd m p offset r (looped_of m.u)
 loop_end m p offset {r = r} = subst (LoopEnd m p offset r)
 
--- with timer reached clear nothing moves to IR1
-reached_stays : (m : Lh5801) → m.is_timer_reached ≡ false → reached_of m ≡ m
-unfolding reached_of
-reached_stays m e = cond_false _ _ _ e
-
--- timer reached moving to IR1 does not change the test
-test_moved : (bf ir0 ir1 ir2 e h : Bool) → due_by bf ir0 true false ir2 e h ≡ due_by bf ir0 ir1 true ir2 e h
-test_moved bf ir0 true ir2 e h = refl
-test_moved bf ir0 false ir2 e h = refl
-
 -- where an instruction is due and P is not the stop address, the step is that instruction's
 step_due : (m : Lh5801) (inputs : Inputs) → Ready m → stops_at inputs m.p ≡ false → step_of m inputs ≡ instruction_of m inputs
 step_due m inputs h e =
     fetching_step m inputs (record { due = (due_is m).0 h.due; elsewhere = (elsewhere_is inputs m.p).0 e })
     ∙ ap (λ (k : Lh5801). instruction_of k inputs) (reached_stays m h.clear)
 
--- timer reached moved to IR1: the same step, and an instruction is due or not as before
-module _ (m : Lh5801) where
-  reached_clear : (reached_of m).is_timer_reached ≡ false
-  unfolding reached_of
-  reached_clear = go m.is_timer_reached refl
-    where
-      go : (b : Bool) → m.is_timer_reached ≡ b → (cond b (with_is_timer_reached (with_ir1 m true) false) m).is_timer_reached ≡ false
-      go true e = ap (λ (s : Status). s.reached) (requested m true false).is
-      go false e = e
-
-  reached_due : due_of (reached_of m) ≡ due_of m
-  unfolding reached_of
-  reached_due = go m.is_timer_reached refl
-    where
-      go : (b : Bool) → m.is_timer_reached ≡ b → due_of (cond b (with_is_timer_reached (with_ir1 m true) false) m) ≡ due_of m
-      go true e =
-          ap due_in (requested m true false).is
-          ∙ test_moved m.bf m.ir0 m.ir1 m.ir2 (has_flag m.t IE) m.is_halted
-          ∙ ap (λ (r : Bool). due_by m.bf m.ir0 m.ir1 r m.ir2 (has_flag m.t IE) m.is_halted) (sym e)
-      go false e = refl
-
-  pub reached_ready : due_of m ≡ true → Ready (reached_of m)
-  reached_ready h = record { due = reached_due ∙ h; clear = reached_clear }
-
-  -- IR1 and timer reached set back: the record that it was
-  pub reached_back : with_is_timer_reached (with_ir1 (reached_of m) m.ir1) m.is_timer_reached ≡ m
-  unfolding reached_of
-  reached_back =
-      cond_both (λ (k : Lh5801). with_is_timer_reached (with_ir1 k m.ir1) m.is_timer_reached ≡ m) m.is_timer_reached _ m
-      (requested_back m true false) (requested_same m)
-
-  pub step_reached : (inputs : Inputs) → due_of m ≡ true → step_of (reached_of m) inputs ≡ step_of m inputs
-  step_reached inputs h =
-      due_step (reached_of m) inputs ((due_is (reached_of m)).0 (reached_due ∙ h))
-      ∙ ap (λ (k : Lh5801). due_instruction_of k inputs) (reached_stays (reached_of m) reached_clear)
-      ∙ sym (due_step m inputs ((due_is m).0 h))
+-- timer reached moved to IR1: the same step
+pub step_reached : (m : Lh5801) (inputs : Inputs) → due_of m ≡ true → step_of (reached_of m) inputs ≡ step_of m inputs
+step_reached m inputs h =
+    let r = reached_ready m h in
+    due_step (reached_of m) inputs ((due_is (reached_of m)).0 r.due)
+    ∙ ap (λ (k : Lh5801). due_instruction_of k inputs) (reached_stays (reached_of m) r.clear)
+    ∙ sym (due_step m inputs ((due_is m).0 h))
 
 -- where an instruction is due and P is not the stop address, by what its byte decodes to
 module _ (m : Lh5801) (inputs : Inputs) (ready : Ready m) (elsewhere : stops_at inputs m.p ≡ false) where
@@ -144,27 +103,32 @@ pub executed_step : (m : Lh5801) (inputs : Inputs) {p q : Memory} {r : Result Ex
 executed_step m inputs d = does_through executed_of outcome_of outcome_in executed_outcome (step_of m inputs) d
 
 -- a step in which no instruction is due, by what the code tests
-module _ (m : Lh5801) (inputs : Inputs) {p : Memory} where
-  pub step_off : {r : Lh5801} → m.bf ≡ false → r ≡ add_state_of m 8 → Does (mapped outcome_of (step_of m inputs)) p (Ok r) p
+module _ (m : Lh5801) (inputs : Inputs) where
+  pub step_off : {p : Memory} {r : Lh5801} → m.bf ≡ false → r ≡ add_state_of m 8 → Does (mapped outcome_of (step_of m inputs)) p (Ok r) p
   unfolding step_of
   step_off {r = r} e f =
-      rw (cond_false _ (powered_of (reached_of m) inputs (accepted m)) (done (did (add_state_of m 8) 8 off)) e)
+      rw (cond_false _ (powered_of (reached_of m) inputs (accepted (reached_of m))) (done (did (add_state_of m 8) 8 off)) e)
       (does_mapped outcome_of {r = did r 8 off} (does_done (ap (λ (x : Lh5801). did x 8 off) f)))
 
   module _ (on : m.bf ≡ true) {k : Lh5801} (moved : k ≡ reached_of m) where
-    pub step_interrupt : {q : Memory} {i : Interrupt} {l r : Lh5801} → accepted m ≡ Some i
+    -- k accepts the same
+    same : accepted m ≡ accepted k
+    same = sym (ap accepted moved ∙ reached_accepted m)
+
+    pub step_interrupt : {p q : Memory} {i : Interrupt} {l r : Lh5801} → accepted k ≡ Some i
         → Does (accept_of (cleared k i) (vector_address i)) p l q
         → r ≡ timer_part_of l
         → Does (mapped outcome_of (step_of m inputs)) p (Ok r) q
     unfolding interrupt_of
     step_interrupt {i = i} {r = r} a d f =
-        rw (interrupt_step m inputs on i a, ← moved)
+        rw (interrupt_step m inputs on i (same ∙ a), ← moved)
         (does_mapped outcome_of {r = did r 0 (interrupt i)} (does_then _ d (does_done (ap (λ (x : Lh5801). did x 0 (interrupt i)) f))))
 
     -- no interrupt is accepted and no instruction is due, so it is halted
-    pub step_halted : {r : Result Lh5801 Stop} → accepted m ≡ None → due_of m ≡ false → r ≡ outcome_of (halted_of k inputs)
+    pub step_halted : {p : Memory} {r : Result Lh5801 Stop} → accepted k ≡ None → due_of m ≡ false → r ≡ outcome_of (halted_of k inputs)
         → Does (mapped outcome_of (step_of m inputs)) p r p
     step_halted a n f =
-        let halted : m.is_halted ≡ true = not-eq-not.0 (λ g. true≢false (sym ((due_is m).1 (record { on = on; none = a; running = g })) ∙ n)) in
-        rw (halting_step m inputs (record { on = on; halted = halted; none = a }), ← moved, f)
+        let none : accepted m ≡ None = same ∙ a in
+        let halted : m.is_halted ≡ true = not-eq-not.0 (λ g. true≢false (sym ((due_is m).1 (record { on = on; none = none; running = g })) ∙ n)) in
+        rw (halting_step m inputs (record { on = on; halted = halted; none = none }), ← moved, f)
         (does_mapped outcome_of {r = halted_of k inputs} (does_done refl))

@@ -31,7 +31,8 @@ use Rattle.execution.specs.Code.Shapes.{opcode_at}
 use Rattle.execution.proofs.OpcodeRead.{instruction_answer}
 use Rattle.execution.proofs.StopsClean.{IsDid, IsActive, active_did, active_listed}
 use Rattle.execution.proofs.Choices.{none_left, none_right, cond_true, cond_false}
-use Rattle.execution.proofs.Tests.{reached_p, off_step, halting_step, address_step, fetching_step, accepted_step, halted_stops, halted_waits}
+use Rattle.execution.proofs.TimerReached.{reached_p}
+use Rattle.execution.proofs.Tests.{off_step, halting_step, address_step, fetching_step, accepted_step, halted_stops, halted_waits}
 use Rattle.execution.proofs.StopAddress.{stops_at_is, elsewhere_is}
 
 -- what a decoded opcode comes to

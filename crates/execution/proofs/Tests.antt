@@ -1,8 +1,7 @@
 -- What a step does by BF, the interrupt that is accepted, and halted.
-use Rattle.std.proofs.Common.{◌≡◌, true, false, cond, ◌≢◌, sym, refl, ap, ◌∙◌, subst, eq-eqb, ne_eqb}
+use Rattle.std.proofs.Common.{◌≡◌, true, false, cond, ◌≢◌, sym, ap, ◌∙◌, subst, eq-eqb, ne_eqb}
 use Rattle.std.specs.Prelude.{Option, Some, None}
 use Rattle.arithmetic.specs.declared.record.Lh5801.{Lh5801}
-use Rattle.arithmetic.proofs.Status.{Status, Requested, requested}
 use Rattle.pages.specs.Prog.{done}
 use Rattle.pages.specs.Timer.{add_state_of, timer_part_of}
 use Rattle.pages.proofs.Always.{Always}
@@ -13,25 +12,11 @@ use Rattle.execution.specs.Step.{did, stopped, waiting, instruction_of, interrup
 use Rattle.execution.specs.declared.Stop.TheVariants.{Halted, AtAddress}
 use Rattle.execution.specs.Conditions.{Halting, Due, AddressStop, Fetches}
 use Rattle.execution.proofs.StopAddress.{stops_at_is, elsewhere_is}
-use Rattle.execution.proofs.Choices.{cond_both, cond_true, cond_false}
-use Rattle.execution.proofs.Ways.{moved}
+use Rattle.execution.proofs.Choices.{cond_true, cond_false}
+use Rattle.execution.proofs.TimerReached.{reached_p, reached_halted, reached_accepted}
 use Rattle.execution.proofs.StopsClean.{IsActive, active_interrupt}
 
 module _ (m : Lh5801) where
-  -- a field that "Timer reached moves to IR1" leaves
-  reached_same : {A : Type 0} (f : Lh5801 → A) → f (moved m) ≡ f m → f (reached_of m) ≡ f m
-  unfolding reached_of
-  reached_same f e = cond_both (λ k. f k ≡ f m) m.is_timer_reached (moved m) m e refl
-
-  lines : Requested m true false (moved m)
-  lines = requested m true false
-
-  pub reached_p : (reached_of m).p ≡ m.p
-  reached_p = reached_same (λ k. k.p) lines.p
-
-  reached_halted : (reached_of m).is_halted ≡ m.is_halted
-  reached_halted = reached_same (λ k. k.is_halted) (ap (λ (s : Status). s.halted) lines.is)
-
   module _ (inputs : Inputs) where
     -- with BF clear a step is completed
     pub off_step : m.bf ≡ false → Always IsActive (step_of m inputs)
@@ -41,7 +26,7 @@ module _ (m : Lh5801) where
     module _ (on : m.bf ≡ true) where
       pub powered_step : (a : Option Interrupt) → accepted m ≡ a → step_of m inputs ≡ powered_of (reached_of m) inputs a
       unfolding step_of
-      powered_step a e = cond_true m.bf _ _ on ∙ ap (λ (x : Option Interrupt). powered_of (reached_of m) inputs x) e
+      powered_step a e = cond_true m.bf _ _ on ∙ ap (λ (x : Option Interrupt). powered_of (reached_of m) inputs x) (reached_accepted m ∙ e)
 
       -- an interrupt is accepted: it is entered
       pub interrupt_step : (i : Interrupt) → accepted m ≡ Some i → step_of m inputs ≡ interrupt_of (reached_of m) i
@@ -56,7 +41,7 @@ module _ (m : Lh5801) where
           → step_of m inputs ≡ cond m.is_halted (done (halted_of (reached_of m) inputs)) (due_instruction_of (reached_of m) inputs)
       unfolding powered_of
       no_interrupt_step e =
-          powered_step None e ∙ ap (λ h. cond h (done (halted_of (reached_of m) inputs)) (due_instruction_of (reached_of m) inputs)) reached_halted
+          powered_step None e ∙ ap (λ h. cond h (done (halted_of (reached_of m) inputs)) (due_instruction_of (reached_of m) inputs)) (reached_halted m)
 
     -- halted: it stops or waits, by the idle figure
     pub halting_step : Halting m → step_of m inputs ≡ done (halted_of (reached_of m) inputs)
@@ -68,11 +53,11 @@ module _ (m : Lh5801) where
 
     pub address_step : AddressStop inputs m → step_of m inputs ≡ done (stopped AtAddress)
     unfolding due_instruction_of
-    address_step s = due_step s.due ∙ cond_true _ _ _ ((stops_at_is inputs _).1 (s.address ∙ ap Some (sym reached_p)))
+    address_step s = due_step s.due ∙ cond_true _ _ _ ((stops_at_is inputs _).1 (s.address ∙ ap Some (sym (reached_p m))))
 
     pub fetching_step : Fetches inputs m → step_of m inputs ≡ instruction_of (reached_of m) inputs
     unfolding due_instruction_of
-    fetching_step f = due_step f.due ∙ cond_false _ _ _ ((elsewhere_is inputs _).1 (λ e. f.elsewhere (e ∙ ap Some reached_p)))
+    fetching_step f = due_step f.due ∙ cond_false _ _ _ ((elsewhere_is inputs _).1 (λ e. f.elsewhere (e ∙ ap Some (reached_p m))))
 
 -- what a halted step comes to, by the idle figure
 module _ (m : Lh5801) (inputs : Inputs) where

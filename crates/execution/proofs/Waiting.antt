@@ -1,8 +1,6 @@
 -- What a waiting step leaves, field by field, and that only a waiting step does.
 use Rattle.std.proofs.Common.{◌≡◌, ℕ, ◌+◌, ◌%◌, ◌^◌, Bool, true, false, cond, ◌&&◌, ◌||◌, eqb, ◌↔◌, sym, refl, ap, ◌∙◌}
-use mathlib.Core.Bool.{or-true, or-false}
 use Rattle.arithmetic.specs.declared.record.Lh5801.{Lh5801}
-use Rattle.arithmetic.specs.Record.{with_ir1, with_is_timer_reached}
 use Rattle.execution.specs.declared.Inputs.{Inputs}
 use Rattle.pages.specs.Pages.{Pages}
 use Rattle.pages.specs.Prog.{done, exec}
@@ -12,35 +10,23 @@ use Rattle.pages.proofs.Timer.{elapsed}
 use Rattle.execution.specs.Step.{waiting, did, reached_of, step_of}
 use Rattle.execution.specs.Conditions.{Waits}
 use Rattle.execution.specs.Waiting.{states_after, shifts, waited_of, Waited}
-use Rattle.execution.proofs.Ways.{moved}
+use Rattle.execution.proofs.TimerReached.{asked, reached_fields}
 use Rattle.execution.proofs.Tests.{halting_step, halted_waits}
 use Rattle.execution.proofs.StopConditions.{waiting_only}
 
 module _ (m : Lh5801) where
-  -- the record after "Timer reached moves to IR1"
-  abbrev pub asked : Bool → Bool → Lh5801
-  asked ir1 reached = record m { ir1 = ir1; is_timer_reached = reached }
-
-  pub reached_fields : reached_of m ≡ asked (m.ir1 || m.is_timer_reached) false
-  unfolding reached_of with_ir1 with_is_timer_reached
-  reached_fields = go m.is_timer_reached refl
-    where
-      go : (b : Bool) → m.is_timer_reached ≡ b → cond b (moved m) m ≡ asked (m.ir1 || b) false
-      go true e = ap (λ (i : Bool). asked i false) (sym (or-true m.ir1))
-      go false e = ap (asked m.ir1) e ∙ ap (λ (i : Bool). asked i false) (sym (or-false m.ir1))
-
   -- the states and the timer part after it, field by field
   waited_fields : (idle : ℕ) → timer_part_of (add_state_of (reached_of m) idle) ≡ waited_of m idle
   unfolding waited_of
   waited_fields idle =
-      ap (λ (k : Lh5801). timer_part_of (add_state_of k idle)) reached_fields ∙ elapsed (asked request false) idle ∙ go (shifts m idle)
+      ap (λ (k : Lh5801). timer_part_of (add_state_of k idle)) (reached_fields m) ∙ elapsed (asked m request false) idle ∙ go (shifts m idle)
     where
       request : Bool
       request = m.ir1 || m.is_timer_reached
 
       after : Bool → ℕ → ℕ → Lh5801
       after reached tm previous =
-          record (asked request reached) { tm = tm; timer_state = states_after m idle; step_previous_state = previous; ticks = (m.ticks + idle) % 2 ^ 64 }
+          record (asked m request reached) { tm = tm; timer_state = states_after m idle; step_previous_state = previous; ticks = (m.ticks + idle) % 2 ^ 64 }
 
       full : Bool
       full = eqb (shift_of m.tm) 0x1FF

@@ -49,5 +49,5 @@ module _ (R : Prog StepEnd → Type 0) (m : Lh5801) (inputs : Inputs) where
       → R (step_of m inputs)
   unfolding step_of reached_of
   step_ways o h k =
-      cond_both R m.bf (powered_of (reached_of m) inputs (accepted m)) _
-      (cond_both (λ r. R (powered_of r inputs (accepted m))) m.is_timer_reached (moved m) m (h (accepted m)) (k (accepted m))) o
+      cond_both R m.bf (powered_of (reached_of m) inputs (accepted (reached_of m))) _
+      (cond_both (λ r. R (powered_of r inputs (accepted r))) m.is_timer_reached (moved m) m (h (accepted (moved m))) (k (accepted m))) o

@@ -1,6 +1,6 @@
 -- Which interrupt a step enters, and what the entry leaves: the fields that change, and every other as it was (document 01, "One step"; document 02,
 -- F-6).
-use Rattle.std.specs.Prelude.{◌≡◌, ℕ, ◌+◌, ◌/◌, ◌%◌, true, false, ◌&&◌, ◌||◌, List, [], ◌∷◌}
+use Rattle.std.specs.Prelude.{◌≡◌, ℕ, Bool, ◌+◌, ◌/◌, ◌%◌, true, false, ◌&&◌, ◌||◌, List, [], ◌∷◌}
 use Rattle.arithmetic.specs.declared.record.Lh5801.{Lh5801}
 use Rattle.arithmetic.specs.Flags.{IE, has_flag, set_flag}
 use Rattle.pages.specs.Pages.{Pages, at, store}
@@ -12,11 +12,16 @@ use Rattle.execution.specs.declared.interrupts.Interrupt.TheVariants.{Ir0, Ir1, 
 use Rattle.execution.specs.Interrupts.{cleared, vector_address}
 use Rattle.execution.specs.Step.{StepEnd, did, interrupt}
 
--- the records from which a step enters each: IR0 goes before IR1, and IR1 before IR2; IE masks IR1 and IR2, and not IR0
-abbrev pub Enters : Lh5801 → Interrupt → Type 0
-Enters m Ir0 = (m.bf ≡ true) × (m.ir0 ≡ true)
-Enters m Ir1 = (m.bf ≡ true) × (m.ir0 ≡ false) × (m.ir1 || m.is_timer_reached ≡ true) × (has_flag m.t IE ≡ true)
-Enters m Ir2 = (m.bf ≡ true) × (m.ir0 ≡ false) × (m.ir1 || m.is_timer_reached ≡ false) × (m.ir2 ≡ true) × (has_flag m.t IE ≡ true)
+-- IR0, IR1 or timer reached, IR2 and IE where each is accepted: IR0 goes before IR1, and IR1 before IR2; IE masks IR1 and IR2, and not IR0
+abbrev pub Selects : Interrupt → Bool → Bool → Bool → Bool → Type 0
+Selects Ir0 ir0 first ir2 enabled = ir0 ≡ true
+Selects Ir1 ir0 first ir2 enabled = (ir0 ≡ false) × (first ≡ true) × (enabled ≡ true)
+Selects Ir2 ir0 first ir2 enabled = (ir0 ≡ false) × (first ≡ false) × (ir2 ≡ true) × (enabled ≡ true)
+
+-- the records from which a step enters each
+pub record Enters (m : Lh5801) (i : Interrupt) : Type 0 where
+  pub on : m.bf ≡ true
+  pub selected : Selects i m.ir0 (m.ir1 || m.is_timer_reached) m.ir2 (has_flag m.t IE)
 
 -- none is accepted: IR0 is clear, and IE is clear, or IR1, timer reached and IR2 all are
 abbrev pub NoneAccepted : Lh5801 → Type 0

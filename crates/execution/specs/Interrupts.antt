@@ -6,8 +6,8 @@ use Rattle.arithmetic.specs.Flags.{IE, has_flag}
 use Rattle.execution.specs.declared.interrupts.Interrupt.{Interrupt}
 use Rattle.execution.specs.declared.interrupts.Interrupt.TheVariants.{Ir0, Ir1, Ir2}
 
--- the interrupt that is accepted in a step from this record, BF being set: IR0, "whether IE is set or not"; else IR1 with IE, and timer reached
--- counts as IR1, to which it moves in this step; else IR2 with IE
+-- the interrupt that is accepted, BF being set: IR0, "whether IE is set or not"; else IR1 with IE; else IR2 with IE. Timer reached counts as IR1, to
+-- which it moves, so that the record before the move accepts the same as the one after it
 abbrev pub accepted : Lh5801 → Option Interrupt
 accepted m =
     cond m.ir0 (Some Ir0)

@@ -104,4 +104,6 @@ powered_of m inputs None = cond m.is_halted (done (halted_of m inputs)) (due_ins
 
 -- "BF clear: 8 states, nothing else, no timer part"
 unfoldable pub step_of : Lh5801 → Inputs → Prog StepEnd
-step_of m inputs = cond m.bf (powered_of (reached_of m) inputs (accepted m)) (done (did (add_state_of m 8) 8 off))
+step_of m inputs =
+    let k = reached_of m in
+    cond m.bf (powered_of k inputs (accepted k)) (done (did (add_state_of m 8) 8 off))

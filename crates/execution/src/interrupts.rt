@@ -40,15 +40,15 @@ impl Interrupt {
         }
     }
 
-    /// Its entry, but for the timer part.
-    pub fn enter(self, cpu: Lh5801, memory: &mut Memory) -> Lh5801
+    /// It is entered: all of the entry but the timer part.
+    pub fn accept(self, cpu: Lh5801, memory: &mut Memory) -> Lh5801
         ensures { Changes (accept_of (cleared cpu self) (vector_address self)) memory result }
     {
         pages::accept(self.cleared(cpu), memory, self.vector())
     }
 }
 
-/// The interrupt that is accepted in a step from this record, if BF is set.
+/// The interrupt that is accepted, with BF set. The two that IE masks are asked for together: one by one, a step with a log costs a twelfth more.
 pub fn accepted(cpu: Lh5801) -> Option<Interrupt>
     ensures { result ≡ accepted cpu }
 {

@@ -243,8 +243,8 @@ pub fn step_cpu(cpu: Lh5801, memory: &mut Memory, inputs: Inputs) -> Result<Lh58
 {
     if cpu.bf {
         let moved = reached(cpu);
-        match interrupts::accepted(cpu) {
-            Some(interrupt) => Ok(pages::timer_part(interrupt.enter(moved, memory))),
+        match interrupts::accepted(moved) {
+            Some(interrupt) => Ok(pages::timer_part(interrupt.accept(moved, memory))),
             None => halted(moved, inputs),
         }
     } else {

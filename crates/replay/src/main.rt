@@ -6,7 +6,7 @@
 //! with used counts up to, at and beyond the list's end, each listed opcode once, and 98 of the directed calls again, which are not of an opcode each and
 //! take less than a million steps; then 147 directed calls with a read-only part, 73 of them with a log; then 155 directed calls with a stop address, 77
 //! of them with a log and 45 with a read-only part; then 99 directed calls with IR0 set, 52 of them with a log, 13 with a read-only part and 8 with a stop
-//! address. In all 1,303 calls have a log; 280 end with 11, 157 of them after completed steps, and 79 with 12; 295 begin with the entry of IR0. Then come
+//! address. In all 1,303 calls have a log; 280 end with 11, 157 of them after completed steps, and 79 with 12; 295 begin with BF and IR0 set. Then come
 //! 121 files that are turned down with 8, 9 or 10: document 01's example cut at every place, with bytes left over, with each field too great or too long,
 //! and with random bytes changed; their lines are the oracle's own reading, for the original has none.
 //! An item, its numbers lowest byte first: the campaign file's length (2 bytes), the two pages' lengths (4 each), the line's length (1), the fill

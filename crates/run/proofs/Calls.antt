@@ -1,5 +1,5 @@
 -- Every run call: its pages, its steps, its stops and its states.
-use Rattle.std.proofs.Common.{◌≡◌, ℕ, ◌*◌, ◌<◌, ◌≤◌, ◌≢◌, ◌↔◌, List, sym, refl, ap, ◌∙◌, true≢false, arith}
+use Rattle.std.proofs.Common.{◌≡◌, ℕ, ◌*◌, ◌<◌, ◌≤◌, ◌≢◌, ◌↔◌, List, true, sym, refl, ap, ◌∙◌, true≢false, arith}
 use Rattle.std.specs.Prelude.{Option}
 use Rattle.arithmetic.specs.declared.record.Lh5801.{Lh5801}
 use Rattle.execution.specs.declared.Inputs.{Inputs}
@@ -24,7 +24,7 @@ use Rattle.run.specs.Reaches.{Reaches, ComesTo, StopsWith}
 use Rattle.run.proofs.Steps.{no_step_written, run_written}
 use Rattle.run.proofs.Acceptance.{Acceptance, page0, page1, timer, limit, accepted, acceptance_case, limit_most, call_run, call_each}
 use Rattle.run.proofs.Numbers.{byte_0, number_1, number_2, number_3, number_4}
-use Rattle.run.proofs.Ends.{Ended, all, none_free, early, run_ended, run_reaches, reaches_run, reaches_full, reaches_stop, reaches_most}
+use Rattle.run.proofs.Ends.{Ended, all, none_free, early, run_ended, run_reaches, reaches_run, reaches_full, reaches_stop, reaches_ir0, reaches_most}
 
 -- demand 1, byte by byte: the pages after any call are the old ones with the completed steps' writes stored in order
 pub call_written : (s : Settings) (free : Option ℕ) (m : Lh5801) (p : Pages) → Written p (writes_of (call_of s free m p)) (call_of s free m p).pages
@@ -261,3 +261,9 @@ module _ (s : Settings) (i : s.inputs.idle ≤ 255) (free : Option ℕ) (m : Lh5
   call_states_most =
       call_each s free m p (λ o. o.answer.states ≤ 255_000_000) (λ e. omega arith)
       (λ h. omega (arith, run_states s.limit s.inputs i free m p, run_steps_most s.limit s.inputs free m p, limit_most h))
+
+-- no call sets IR0
+pub call_ir0 : (s : Settings) (free : Option ℕ) (m : Lh5801) (p : Pages) → (call_of s free m p).answer.cpu.ir0 ≡ true → m.ir0 ≡ true
+unfolding no_step
+call_ir0 s free m p =
+    call_each s free m p (λ o. o.answer.cpu.ir0 ≡ true → m.ir0 ≡ true) (λ e z. z) (λ h. reaches_ir0 (run_reaches s.limit s.inputs free m p))

@@ -13,8 +13,8 @@ use Rattle.execution.specs.Step.{Kind, StepEnd, did, stopped, reached_of, step_o
 use Rattle.execution.specs.Code.Outcomes.{outcome_of}
 use Rattle.execution.specs.Inputs.{equals_address, stops_at}
 use Rattle.execution.specs.Code.Due.{due_of, Ready}
-use Rattle.execution.proofs.Order.{reached_ready, reached_back, step_reached}
-use Rattle.execution.proofs.Tests.{reached_p}
+use Rattle.execution.proofs.TimerReached.{reached_p, reached_ready, reached_back}
+use Rattle.execution.proofs.Order.{step_reached}
 use Rattle.execution.proofs.StopsClean.{stop_no_write}
 use Rattle.run.specs.declared.Settings.{Settings}
 use Rattle.run.specs.Run.{one_step}

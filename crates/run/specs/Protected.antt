@@ -1,15 +1,15 @@
 -- Steps and calls on pages of which a part is read-only (document 02, F-4): what must come out. proofs/Protected.antt has the theorems over them.
-use Rattle.std.specs.Prelude.{ℕ, true, false, Bool, List, [], ◌∷◌, map, replicate, None}
+use Rattle.std.specs.Prelude.{ℕ, ◌+◌, ◌-◌, true, false, Bool, List, [], ◌∷◌, map, replicate, None}
 use Rattle.arithmetic.specs.declared.record.Lh5801.{Lh5801}
-use Rattle.arithmetic.specs.Record.{with_x, with_s, with_bf}
+use Rattle.arithmetic.specs.Record.{with_x, with_s, with_bf, with_ir0, with_ir1}
 use Rattle.pages.specs.declared.ReadOnly.{ReadOnly}
-use Rattle.pages.specs.Pages.{Pages, read_only_of, writable, with_read_only, at}
+use Rattle.pages.specs.Pages.{Pages, no_read_only, read_only_of, writable, with_read_only, at}
 use Rattle.pages.specs.Prog.{Access, read_of, write_of, Ran}
 use Rattle.pages.specs.Stack.{word_of}
 use Rattle.pages.specs.Written.{Write, read_first}
 use Rattle.execution.specs.Step.{StepEnd, did, stopped}
 use Rattle.execution.specs.Inputs.{of_keyboard}
-use Rattle.run.specs.AccessOrders.{Seen, seen_of, coded, start_record, interrupted, long, wrote}
+use Rattle.run.specs.AccessOrders.{Seen, seen_of, coded, start_record, enabled, long, wrote}
 use Rattle.run.specs.Run.{writes_of, accesses_of, call_of, settings}
 
 -- what is seen of a step: as in AccessOrders.antt; S and P after it; and what some addresses hold after it
@@ -69,13 +69,20 @@ abbrev pub sta_on_1 : ReadOnly → ℕ → ProtectedCase
 sta_on_1 r byte =
     leaves start_record (coded (0xFD ∷ 0x0E ∷ [])) r (0x10008 ∷ []) 10 (read_of 0x00 0xFD ∷ read_of 0x01 0x0E ∷ write_of 0x10008 0x75 ∷ []) 0x0C 0x02 (byte ∷ [])
 
--- an interrupt with S at FFFB on a page of zeros: T, 02, is pushed at FFFB and P's low byte, 04, at FFFA. With this part, what the vector reads, and so
--- what FFFA and FFFB hold
-abbrev pub enters : ReadOnly → ℕ → ℕ → ProtectedCase
-enters r high low =
-    leaves (interrupted 0xFFFB) long r (0xFFFA ∷ 0xFFFB ∷ 0xFFF9 ∷ []) 0
-    (write_of 0xFFFB 0x02 ∷ write_of 0xFFFA 0x04 ∷ write_of 0xFFF9 0x03 ∷ read_of 0xFFFA high ∷ read_of 0xFFFB low ∷ []) 0xFFF8 (word_of high low)
+-- an interrupt on a page of zeros, with S at its vector's second byte: T, 02, is pushed there, and P's low byte, 04, at the first. With this part, what
+-- the vector reads, and so what its bytes hold
+abbrev pub enters : Lh5801 → ℕ → ReadOnly → ℕ → ℕ → ProtectedCase
+enters m vector r high low =
+    leaves (with_s m (vector + 1)) long r (vector ∷ (vector + 1) ∷ (vector - 1) ∷ []) 0
+    (write_of (vector + 1) 0x02 ∷ write_of vector 0x04 ∷ write_of (vector - 1) 0x03 ∷ read_of vector high ∷ read_of (vector + 1) low ∷ []) (vector - 2)
+    (word_of high low)
     (high ∷ low ∷ 0x03 ∷ [])
+
+abbrev pub enters_ir0 : ReadOnly → ℕ → ℕ → ProtectedCase
+enters_ir0 = enters (with_ir0 enabled true) 0xFFFC
+
+abbrev pub enters_ir1 : ReadOnly → ℕ → ℕ → ProtectedCase
+enters_ir1 = enters (with_ir1 enabled true) 0xFFFA
 
 -- C0 at 0000 with S at FFC1, zeros elsewhere: P, 0001, is pushed at FFC1 and FFC0, which are its vector. With this part, what FFC1 reads
 abbrev pub takes_vector : ReadOnly → ℕ → ProtectedCase
@@ -116,10 +123,13 @@ protected_cases =
     ∷ leaves start_record (coded (0xD7 ∷ [])) (read_only_of 0x08 0x09) (0x08 ∷ []) 12 (read_of 0x00 0xD7 ∷ read_of 0x08 0x18 ∷ write_of 0x08 0x87 ∷ []) 0x0C
     0x01 (0x18 ∷ [])
     -- a vector whose bytes are protected reads the old ones after the pushes
-    ∷ enters (read_only_of 0xFFFA 0xFFFC) 0x00 0x00
-    ∷ enters (read_only_of 0xFFFB 0x10000) 0x04 0x00
-    ∷ enters (read_only_of 0xFFFA 0xFFFB) 0x00 0x02
-    ∷ enters (read_only_of 0xFFFC 0x10000) 0x04 0x02
+    ∷ enters_ir1 (read_only_of 0xFFFA 0xFFFC) 0x00 0x00
+    ∷ enters_ir1 (read_only_of 0xFFFB 0x10000) 0x04 0x00
+    ∷ enters_ir1 (read_only_of 0xFFFA 0xFFFB) 0x00 0x02
+    ∷ enters_ir1 (read_only_of 0xFFFC 0x10000) 0x04 0x02
+    ∷ enters_ir0 (read_only_of 0xFFFC 0x10000) 0x00 0x00
+    ∷ enters_ir0 (read_only_of 0xFFFD 0xFFFE) 0x04 0x00
+    ∷ enters_ir0 no_read_only 0x04 0x02
     ∷ takes_vector (read_only_of 0xFFC1 0xFFC2) 0x00
     ∷ takes_vector (read_only_of 0xFFC2 0xFFFF) 0x01
     -- a step with BF clear

@@ -70,12 +70,12 @@ ldi_accesses = read_of 0x0000 0xB5 ∷ read_of 0x0001 0x42 ∷ []
 abbrev pub after_states : ℕ → ℕ → Lh5801
 after_states states flags = record_of (0 ∷ 0 ∷ 0 ∷ 0 ∷ 0 ∷ 0x0020 ∷ 0x0000 ∷ 0 ∷ flags ∷ states ∷ 0 ∷ states ∷ [])
 
--- P is 0000, the stop address, and T 02, which is IE; flags as given: an interrupt is entered, with its vector there, and these flags are left. Nothing
--- is stored at the stack, nor read at the vector
-abbrev pub entered_there : ℕ → Interrupt → ℕ → ℕ → AddressStep
-entered_there flags i vector left =
-    steps_to 0x0000 0 (at_p 2 0x0000 flags) (did (record_of (0 ∷ 0 ∷ 0 ∷ 0 ∷ 0 ∷ 0x001D ∷ 0xFFFF ∷ 0 ∷ left ∷ 0 ∷ 0 ∷ 0 ∷ [])) 0 (interrupt i))
-    (write_of 0x0020 0x02 ∷ write_of 0x001F 0x00 ∷ write_of 0x001E 0x00 ∷ read_of vector 0xFF ∷ read_of (vector + 1) 0xFF ∷ [])
+-- P is 0000, the stop address; T and flags as given: an interrupt is entered, with its vector there, and these flags are left. Nothing is stored at the
+-- stack, nor read at the vector
+abbrev pub entered_there : ℕ → ℕ → Interrupt → ℕ → ℕ → AddressStep
+entered_there t flags i vector left =
+    steps_to 0x0000 0 (at_p t 0x0000 flags) (did (record_of (0 ∷ 0 ∷ 0 ∷ 0 ∷ 0 ∷ 0x001D ∷ 0xFFFF ∷ 0 ∷ left ∷ 0 ∷ 0 ∷ 0 ∷ [])) 0 (interrupt i))
+    (write_of 0x0020 t ∷ write_of 0x001F 0x00 ∷ write_of 0x001E 0x00 ∷ read_of vector 0xFF ∷ read_of (vector + 1) 0xFF ∷ [])
 
 unfoldable pub address_steps : List AddressStep
 address_steps =
@@ -95,12 +95,13 @@ address_steps =
     ∷ steps_to 0x0100 0 (at_p 0 0x0000 0x008) ldi_done ldi_accesses
     ∷ record (steps_to 0x0000 0 (at_p 0 0x0000 0x008) ldi_done ldi_accesses) { stop = None }
     ∷ steps_to 0x0002 0 (at_p 0 0x0003 0x008) (stopped (Unlisted (First 0x31))) (read_of 0x0003 0x31 ∷ [])
-    -- no instruction is due there: BF clear; an interrupt accepted, from timer reached, IR1, IR2 and IR0; halted, where it stops with 7 or waits
+    -- no instruction is due there: BF clear; an interrupt accepted, from timer reached, IR1, IR2 and IR0, IR0 with IE clear too; halted, where it stops with 7 or waits
     ∷ steps_to 0x0000 0 (at_p 0 0x0000 0x000) (did (after_states 8 0x000) 8 off) []
-    ∷ entered_there 0x108 Ir1 0xFFFA 0x008
-    ∷ entered_there 0x048 Ir1 0xFFFA 0x008
-    ∷ entered_there 0x088 Ir2 0xFFF8 0x008
-    ∷ entered_there 0x0E8 Ir0 0xFFFC 0x0C8
+    ∷ entered_there 2 0x108 Ir1 0xFFFA 0x008
+    ∷ entered_there 2 0x048 Ir1 0xFFFA 0x008
+    ∷ entered_there 2 0x088 Ir2 0xFFF8 0x008
+    ∷ entered_there 2 0x0E8 Ir0 0xFFFC 0x0C8
+    ∷ entered_there 0 0x028 Ir0 0xFFFC 0x008
     ∷ steps_to 0x0000 0 (at_p 0 0x0000 0x009) (stopped Halted) []
     ∷ steps_to 0x0000 5 (at_p 0 0x0000 0x009) (did (after_states 5 0x009) 5 waiting) []
     ∷ []

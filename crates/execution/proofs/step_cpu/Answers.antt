@@ -4,7 +4,7 @@ use Rattle.execution.proofs.step_cpu.Goals as goal
 
 pub returns-in-Some : goal.returns-in-Some
 returns-in-Some c =
-    step_interrupt _ _ c.if-cpu.true c.reached-moved.ensures (sym c.accepted.ensures ∙ c.in-Some.is) c.enter.ensures c.timer_part.ensures
+    step_interrupt _ _ c.if-cpu.true c.reached-moved.ensures (sym c.accepted.ensures ∙ c.in-Some.is) c.accept.ensures c.timer_part.ensures
 
 pub returns-in-None : goal.returns-in-None
 returns-in-None c =

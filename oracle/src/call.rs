@@ -335,7 +335,7 @@ pub struct Answer {
 }
 
 impl Answer {
-    /// The answer of a call that a condition of 1 to 4 turns down.
+    /// The answer of a call that ends with this number, and has changed nothing.
     pub fn refused(call: &Call, number: u8) -> Answer {
         Answer {
             number,

@@ -7,8 +7,8 @@
 //! compared with the original's accesses and with the model's log. In half of the starts a part of
 //! page 0 is read-only. Half of the starts have a stop address; after a stop it is often taken away or
 //! another one given, as a host does that steps through a routine. A host sets IR0 too, at a start and
-//! between two calls: the call's first step is the model's then (`first_step.rs`), and the original
-//! goes on from it. Every session depends on the seed and its own index only.
+//! between two calls: with BF set too the call's first step is the model's (`first_step.rs`), and the
+//! original goes on from it. Every session depends on the seed and its own index only.
 
 #![forbid(unsafe_code)]
 
@@ -46,19 +46,19 @@ const SESSION: u64 = 30_000;
 const PARKED: u64 = 40;
 /// A session's kind goes round in so many. Its starts have, by the kind: a log, and half of them a
 /// read-only part; half of them such a part, and no log; all of them such a part, and half a log;
-/// neither. Calls with a log or a read-only part, or that begin with IR0's entry, run through the
+/// neither. Calls with a log or a read-only part, or that begin with BF and IR0 set, run through the
 /// original's own panics and the model too; the others run on the original without its log.
 const KINDS: u64 = 4;
 /// Of a hundred steps that make an access at least so many have a log.
 const LEAST_LOGGED: u64 = 10;
-/// The greatest limit of a call with a log or a read-only part, or that begins with IR0's entry. A call
-/// of a greater one has no log; of the others there is none but such as is refused.
+/// The greatest limit of a call with a log or a read-only part, or that begins with BF and IR0 set. A
+/// call of a greater one has no log; of the others there is none but such as is refused.
 const LOGGED_LIMIT: u32 = 20_000;
 /// Of a hundred stops with 12, after so many the stop address is taken away or another one comes.
 const STOPPED: u64 = 75;
 /// A new stop address is looked for in so many steps that come next.
 const AHEAD: u32 = 300;
-/// Of a hundred changes between two calls, after so many IR0 is set.
+/// Of a hundred cases between two calls, in so many IR0 is set, whatever else is changed.
 const REQUESTED: u64 = 4;
 /// In a run of so many steps read-only parts, stop addresses and IR0 have to have done all that they
 /// can do.
@@ -462,12 +462,12 @@ impl Session<'_> {
     }
 
     /// The original without its log can make the next call's steps: nothing is read-only, and it does
-    /// not begin with IR0's entry.
+    /// not begin with BF and IR0 set.
     fn is_bare(&self) -> bool {
         self.read_only == ReadOnly::default() && !self.record.enters_ir0()
     }
 
-    /// A call of this limit has a log or a read-only part, or begins with IR0's entry.
+    /// A call of this limit has a log or a read-only part, or begins with BF and IR0 set.
     fn is_whole(&self, limit: u32) -> bool {
         (self.bus_log.is_some() || !self.is_bare()) && limit <= LOGGED_LIMIT
     }
@@ -514,9 +514,9 @@ impl Session<'_> {
             .map_or(Ok(()), Err)
     }
 
-    /// Runs a call with a log or a read-only part, or that begins with IR0's entry, on the original with
-    /// its panics, the model and the port, and then, where that can be, as many steps on the original
-    /// without its log.
+    /// Runs a call with a log or a read-only part, or that begins with BF and IR0 set, on the original
+    /// with its panics, the model and the port, and then, where that can be, as many steps on the
+    /// original without its log.
     fn compare_whole(&mut self, limit: u32) -> Result<Returned, String> {
         let call = self.take_call(limit);
         let (original, mut port, difference) = self.comparison.both(&call);

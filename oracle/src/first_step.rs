@@ -1,10 +1,12 @@
 //! A call's first step with IR0 set (document 02, F-6), which is no step of the original.
 //!
 //! The original does nothing while IR0 is set; document 02 has the unit enter IR0's routine, and claims
-//! agreement with the original for steps that begin with IR0 clear. Nothing inside the unit sets IR0,
-//! so with BF set it is only ever the first step of a call that begins with it. That step is made here
-//! by the model alone. The original goes on from the record, the pages, the log, the steps, the states
-//! and the accesses that it has left. With BF clear such a step is the original's own, as ever.
+//! agreement with the original for steps that begin with IR0 clear. No step sets IR0 (of the port that
+//! is a proved law, `step_ir0`; the original's file has no line that would), and none sets BF, so only
+//! a call's first step ever begins with both. That step is made here by the model alone: with the model
+//! on the other side it is compared with itself. The original goes on from the record, the pages, the
+//! log, the steps, the states and the accesses that it has left. With BF clear such a step is the
+//! original's own, as ever.
 
 #![forbid(unsafe_code)]
 

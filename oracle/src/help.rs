@@ -84,15 +84,15 @@ Runs at least N steps of random programs on the original and on the port, and co
 steps, states, end record and both pages after every call. In three of eight starts the port is lent a
 log, which is handed on from call to call and emptied where it is full, and the log has to equal the
 original's accesses and the model's log. In half of the starts a part of page 0 is read-only, and half
-of them have a stop address, which often changes after a stop. IR0 is often set, at a start and
-between two calls; the first step is the model's then, and the original goes on from it. Calls with a
-log or a read-only part, or with such a first step, run on the original through its own panics, and on
-the model too. Idle figures are 0 in about half of the sessions' starts, else any. Prints what was
-reached; an opcode that was executed less than 10,000 times (N / 10,000 times where that is less), an
-idle figure of 1 to 255 with less than 100 waiting steps (N / 1,000,000), less than N / 10 steps with
-an access and a log, or, with N from 1,000,000 on, read-only parts, stop addresses or IR0 that did not
-do all they can end with status 1. At a difference it prints the smallest failing input it finds and
-ends with status 1. It wants the feature `port`.
+of them have a stop address, which often changes after a stop. IR0 is set in a tenth of the starts and
+in six of a hundred cases between two calls; with BF set too the first step is the model's, and the
+original goes on from it. Calls with a log or a read-only part, or with such a first step, run on the
+original through its own panics, and on the model too. Idle figures are 0 in about half of the
+sessions' starts, else any. Prints what was reached; an opcode that was executed less than 10,000
+times (N / 10,000 times where that is less), an idle figure of 1 to 255 with less than 100 waiting
+steps (N / 1,000,000), less than N / 10 steps with an access and a log, or, with N from 1,000,000 on,
+read-only parts, stop addresses or IR0 that did not do all they can end with status 1. At a difference
+it prints the smallest failing input it finds and ends with status 1. It wants the feature `port`.
 
 --steps N     steps that execute an instruction or accept an interrupt; 100,000,000 without it
 --seed S      the seed, a decimal number; 1 without it
@@ -109,9 +109,9 @@ states, and both pages: a written byte is what was last written, every other byt
 read first and what is written comes from the original's log. Both lists have the same idle figure
 and, in half of the runs, the same read-only part: what is dropped there leaves its byte unwritten,
 and after every call each side's bytes in it have to be what they were. In half of the runs both have
-the same stop address, and the run is made without it too. Where a run begins with IR0's entry, that
-step is the model's. In half of the runs both are lent a bus log, with equally many free entries and
-otherwise different, and hand on its used count: the lists and counts at the end are compared. At a
+the same stop address, and the run is made without it too. Where a run begins with BF and IR0 set, its
+first step is the model's. In half of the runs both are lent a bus log, with equally many free entries
+and otherwise different, and hand on its used count: the lists and counts at the end are compared. At a
 difference it prints the smallest failing input it finds and ends with status 1, and so it does where,
 in 2,000 runs or more, read-only parts, stop addresses or IR0 did not do all that they can. It wants
 the feature `port`.

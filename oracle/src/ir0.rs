@@ -432,7 +432,7 @@ mod tests {
 
     /// With BF clear a step is 8 states and nothing else, and IR0 stays.
     #[test]
-    fn with_bf_clear_ir0_waits() {
+    fn with_bf_clear_ir0_stays() {
         let record = Record { ir0: true, t: 0x02, is_timer_reached: true, ..Record::default() };
         let call = call(record, RTI, 3);
         hold(&call, 24, Record { timer_state: 24, ticks: 24, ..call.record });

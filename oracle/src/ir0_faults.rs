@@ -10,6 +10,7 @@ use crate::memory::Memory;
 use crate::model::Model;
 use crate::random::Random;
 use crate::shrink::{describe, shrink};
+use crate::step_by_step::step_by_step;
 use crate::stop_addresses;
 
 #[derive(Clone, Copy, Debug, PartialEq, Eq)]
@@ -104,7 +105,8 @@ const FAULTS: [Fault; 36] = [
     ReachedIsLost,
 ];
 
-/// The model's steps one by one, with another entry of IR0, which is made anew here.
+/// The model's steps one by one, with another entry of IR0, which is made anew here but for its timer
+/// part.
 struct Wrong(Fault);
 
 impl Side for Wrong {
@@ -117,14 +119,7 @@ impl Side for Wrong {
         if refusal(lengths, call.record.tm, call.limit).is_some() {
             return Model::default().call(call);
         }
-        let mut next = Call { limit: 1, ..call.clone() };
-        let mut sum = Answer { log: Some(Default::default()), ..Answer::default() };
-        while sum.number == 0 && sum.steps < call.limit.into() {
-            sum.join(self.step(&next));
-            next.go_on(&mut sum);
-        }
-        let Call { record, pages, bus_log, .. } = next;
-        Answer { record, pages, bus_log, ..sum }
+        step_by_step(call, |next| self.step(next))
     }
 }
 
@@ -164,24 +159,20 @@ impl Wrong {
         Answer { record: Record { ir0: true, ..one.record }, ..one }
     }
 
-    /// The entry as it should be is the model's, whose timer part is kept.
+    /// The entry, made anew but for its timer part.
     fn entry(&self, next: &Call) -> Answer {
         let is_full = next.bus_log.as_ref().is_some_and(BusLog::is_full);
         if is_full && self.0 != BeforeEleven {
             return Model::default().call(next);
         }
         let given = &next.record;
-        let on = Record { bf: true, ..*given };
-        let right =
-            Model::default().call(&Call { record: on, bus_log: None, ..next.clone() }).record;
+        let timed = timed(next);
         let mut memory = Memory::of(next);
         memory.begin_step();
         let is_frozen = self.0 == Frozen || self.0 == FrozenWithIeClear && given.t & 0x02 == 0;
         let mut record = match is_frozen {
-            true => {
-                Record { is_halted: given.is_halted, t: given.t, s: given.s, p: given.p, ..right }
-            }
-            false => self.enter(given, &mut memory, right),
+            true => timed,
+            false => self.enter(given, &mut memory, timed),
         };
         record.ir0 = is_frozen || self.0 == RequestStays;
         let states = self.spend(next, &mut record);
@@ -194,7 +185,7 @@ impl Wrong {
     }
 
     /// The accesses in order, and the record behind them.
-    fn enter(&self, given: &Record, memory: &mut Memory, right: Record) -> Record {
+    fn enter(&self, given: &Record, memory: &mut Memory, timed: Record) -> Record {
         let at = self.vector();
         let early = (self.0 == VectorBeforePushes).then(|| at.map(|address| memory.read(address)));
         let mut s = given.s;
@@ -206,7 +197,8 @@ impl Wrong {
         if self.0 == VectorLowByteFirst {
             read.reverse();
         }
-        self.left(given, Record { s, p: u16::from_be_bytes(read), ..right })
+        let (t, p) = (given.t & 0xFD, u16::from_be_bytes(read));
+        self.left(given, Record { s, t, p, is_halted: false, ..timed })
     }
 
     /// Where the vector's two bytes are read, in order.
@@ -240,7 +232,6 @@ impl Wrong {
     fn left(&self, given: &Record, entered: Record) -> Record {
         let mut r = entered;
         match self.0 {
-            WithBfClear => r.bf = given.bf,
             Ir1IsCleared => r.ir1 = false,
             Ir2IsCleared => r.ir2 = false,
             IeStays => r.t = given.t,
@@ -271,6 +262,16 @@ impl Wrong {
         record.ticks = record.ticks.wrapping_add(states);
         states
     }
+}
+
+/// The record with timer reached moved to IR1, and after the model's timer part, which a unit has that
+/// is on.
+fn timed(next: &Call) -> Record {
+    let on = Record { bf: true, ..next.record };
+    let one = Model::default().call(&Call { record: on, bus_log: None, ..next.clone() });
+    let Record { tm, is_timer_reached, step_previous_state, .. } = one.record;
+    let ir1 = next.record.ir1 || next.record.is_timer_reached;
+    Record { ir1, tm, is_timer_reached, step_previous_state, ..next.record }
 }
 
 /// The first of these calls that shows the fault.

@@ -210,10 +210,10 @@ pub struct Counts {
     /// What the stop addresses did; the calls with one that have a log, and a read-only part.
     pub stops: Stops,
     pub stopping: [u64; 3],
-    /// What the calls with IR0 set have met, and how many of them begin with its entry or with 11 in
-    /// place of it.
+    /// What the calls with IR0 set have met; how many have BF set and are not turned down, and how many
+    /// of these end with 11 in place of the entry.
     pub ir0: Ir0Counts,
-    pub entering_ir0: u64,
+    pub ir0_with_bf: [u64; 2],
 }
 
 impl Counts {
@@ -223,7 +223,10 @@ impl Counts {
         self.drops.add(call, answer);
         self.stops.add(call, answer);
         self.ir0.add(call, answer);
-        self.entering_ir0 += u64::from(call.record.enters_ir0() && !matches!(answer.number, 1..=4));
+        if call.record.enters_ir0() && !matches!(answer.number, 1..=4) {
+            self.ir0_with_bf[0] += 1;
+            self.ir0_with_bf[1] += u64::from(answer.number == 11 && answer.steps == 0);
+        }
         let (is_logged, is_protected) =
             (call.bus_log.is_some(), call.read_only != ReadOnly::default());
         self.protected += u64::from(is_protected);
@@ -256,7 +259,11 @@ impl Counts {
         println!("{}; {} of these calls have a log", self.drops, self.protected_logged);
         let [_, logged, protected] = self.stopping;
         println!("{}; {logged} have a log, {protected} a read-only part", self.stops);
-        println!("{}; {} of them with BF set", self.ir0, self.entering_ir0);
+        let [with_bf, full] = self.ir0_with_bf;
+        println!(
+            "{}; {with_bf} with BF set and not turned down, {full} of them 11 at once",
+            self.ir0
+        );
     }
 }
 
@@ -358,8 +365,8 @@ mod tests {
     /// The numbers that `README.md` and the head of the program `replay` give: files of the list, items,
     /// calls, files that are turned down; calls with a log, with a read-only part, with both; calls
     /// that end with 11, those of them after completed steps, and calls that end with 12; calls with
-    /// a stop address, those of them with a log, and with a read-only part; calls that begin with IR0's
-    /// entry, or with 11 in place of it.
+    /// a stop address, those of them with a log, and with a read-only part; calls that begin with BF and
+    /// IR0 set and are not turned down, those of them that end with 11 in place of the entry.
     fn hold_numbers(files: usize, counts: &Counts) {
         let ends = counts.numbers.map(|[all, _]| all);
         let refused = ends[8..=10].iter().sum();
@@ -367,7 +374,7 @@ mod tests {
         assert_eq!((counts.items - refused, refused), (3432, 121));
         assert_eq!((counts.logged, counts.protected, counts.protected_logged), (1303, 205, 101));
         assert_eq!((ends[11], counts.full_later, ends[12]), (280, 157, 79));
-        assert_eq!((counts.stopping, counts.entering_ir0), ([163, 81, 45], 295));
+        assert_eq!((counts.stopping, counts.ir0_with_bf), ([163, 81, 45], [295, 13]));
     }
 
     /// The line of a file that is turned down, as the oracle's own reader has it.

@@ -53,6 +53,8 @@ mod shrink_pair;
 mod speed;
 mod speed_analyser;
 mod speed_log;
+#[cfg(test)]
+mod step_by_step;
 mod stop_addresses;
 mod stop_counts;
 #[cfg(test)]

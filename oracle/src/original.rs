@@ -307,7 +307,7 @@ mod tests {
     }
 
     /// The library's run call, which foretells 5 and 6, answers as the panics do. Half of the calls
-    /// have a stop address, none begins with IR0's entry.
+    /// have a stop address, none begins with BF and IR0 set.
     #[test]
     fn the_bare_run_call_answers_as_the_panics_do() {
         for index in 0..3000 {

@@ -168,8 +168,8 @@ pub fn request_ir0(random: &mut Random, record: &mut Record) {
     beside_ir0(random, record);
 }
 
-/// What comes with IR0: in half of the records everything beside it that could decide about a step, as
-/// often set as clear, and in a third of them the stack over IR0's vector or beside it.
+/// What comes with IR0: in half of the records halted, IR1, IR2, timer reached and IE as often set as
+/// clear, and BF mostly set; in a third of them the stack over IR0's vector or beside it.
 fn beside_ir0(random: &mut Random, record: &mut Record) {
     if random.chance(50) {
         let deciding = random.word() & 0x1C1;
@@ -298,7 +298,8 @@ fn add_routines(random: &mut Random, page: &mut Vec<u8>) {
     routines(random).iter().for_each(|(at, bytes)| place(page, *at, bytes));
 }
 
-/// Makes a call begin with IR0's entry, often with other requests besides, and with routines for them.
+/// Makes a call begin with BF and IR0 set, often with other requests besides, and with routines for
+/// them.
 pub fn enter_ir0(random: &mut Random, call: &mut Call) {
     request_ir0(random, &mut call.record);
     call.record.bf = true;

@@ -10,6 +10,7 @@ use crate::protect;
 use crate::random::Random;
 use crate::read_only;
 use crate::shrink::{describe, shrink};
+use crate::step_by_step::step_by_step;
 
 #[derive(Clone, Copy, Debug, PartialEq, Eq)]
 enum Fault {
@@ -159,23 +160,14 @@ impl Wrong {
 
     /// The model's steps one by one. It tells its accesses in the log alone, as the port does.
     fn steps(&self, call: &Call) -> Answer {
-        let mut next = Call { limit: 1, ..call.clone() };
-        let mut sum = Answer::default();
-        for _ in 0..call.limit {
-            let mut one = Model::default().call(&next);
+        let sum = step_by_step(call, |next| {
+            let mut one = Model::default().call(next);
             if one.steps == 1 {
-                self.spoil(&next, &mut one);
+                self.spoil(next, &mut one);
             }
-            (next.record, next.pages, next.bus_log) = (one.record, one.pages, one.bus_log);
-            (sum.number, sum.byte) = (one.number, one.byte);
-            sum.steps += one.steps;
-            sum.states += one.states;
-            if one.number != 0 {
-                break;
-            }
-        }
-        let Call { record, pages, bus_log, .. } = next;
-        Answer { record, pages, bus_log, ..sum }
+            one
+        });
+        Answer { log: None, ..sum }
     }
 
     /// What is wrong in a completed step: first on the pages and in the record, then in the log.

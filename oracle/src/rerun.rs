@@ -162,7 +162,7 @@ fn course(call: &Call, limits: &[u32]) -> Result<Course, String> {
     let mut next = call.clone();
     for limit in limits {
         next.limit = *limit;
-        let answer = match next.bus_log {
+        let mut answer = match next.bus_log {
             Some(_) => ordered_original(&next),
             None => Original.call(&next),
         };
@@ -173,7 +173,7 @@ fn course(call: &Call, limits: &[u32]) -> Result<Course, String> {
         course.drops.add(&next, &answer);
         course.stops.add(&next, &answer);
         course.ir0.add(&next, &answer);
-        (next.record, next.pages, next.bus_log) = (answer.record, answer.pages, answer.bus_log);
+        next.go_on(&mut answer);
     }
     if let (Some(given), Some(log)) = (&call.bus_log, &next.bus_log) {
         let used = log.entries.iter().take(log.used).skip(given.used);

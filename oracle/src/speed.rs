@@ -318,7 +318,7 @@ pub fn once(way: &str, file: &Path, is_logged: bool) -> Result<String, String> {
         return answer.failure.clone().map_or_else(|| Ok(answer.line()), Err);
     }
     if call.record.enters_ir0() {
-        return Err("the run begins with IR0's entry, which is no step of the original".to_string());
+        return Err("with BF and IR0 set the first step is none of the original".to_string());
     }
     let mut machine = Pc1500::new(&call.record, call.inputs, call.pages);
     if way == WAYS[ORIGINAL] {

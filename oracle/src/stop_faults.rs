@@ -10,6 +10,7 @@ use crate::model::Model;
 use crate::opcodes::length;
 use crate::random::Random;
 use crate::shrink::{describe, shrink};
+use crate::step_by_step::step_by_step;
 use crate::stop_addresses;
 use crate::stops;
 
@@ -153,27 +154,24 @@ impl Wrong {
         Wrong { fault, has_stopped: false }
     }
 
-    /// Steps until the limit or a stop. The model's accesses are joined.
+    /// Steps until the limit or a stop.
     fn steps(&mut self, call: &Call) -> Answer {
-        let inputs = call.inputs.without_stop();
-        let mut next = Call { limit: 1, inputs, ..call.clone() };
-        let mut sum = Answer { log: Some(Default::default()), ..Answer::default() };
+        let plain = Call { inputs: call.inputs.without_stop(), ..call.clone() };
         let mut last = None;
-        while sum.number == 0 && sum.steps < call.limit.into() {
-            if self.is_stop(call, &next, last) {
-                self.stop(&mut next, &mut sum, last);
-                break;
+        let mut sum = step_by_step(&plain, |next| {
+            if self.is_stop(call, next, last) {
+                return self.stop(next, last);
             }
-            let one = Model::default().call(&next);
-            last = Some(last_of(&next, &one));
-            sum.join(one);
-            next.go_on(&mut sum);
-        }
-        if sum.number == 0 && self.fault == InPlaceOfZero && self.is_there(call, &next, last) {
+            let one = Model::default().call(next);
+            last = Some(last_of(next, &one));
+            one
+        });
+        let is_there = call.inputs.stop_address == Some(sum.record.p);
+        let is_due = is_there && sum.record.is_instruction_due();
+        if self.fault == InPlaceOfZero && sum.number == 0 && is_due {
             sum.number = 12;
         }
-        let Call { record, pages, bus_log, .. } = next;
-        Answer { record, pages, bus_log, ..sum }
+        sum
     }
 
     /// Whether the call stops before this step.
@@ -232,31 +230,32 @@ impl Wrong {
             LastInstruction => last.is_some_and(|last| last.record.p == address),
             AnyByteOfTheInstruction => behind < length(code(next)).max(1),
             ByteAfterFd => behind == u16::from(code(next)[0] == 0xFD),
-            InPlaceOfZero => behind == 0 && next.record.is_instruction_due(),
             _ => behind == 0,
         }
     }
 
-    /// What a stop leaves.
-    fn stop(&mut self, next: &mut Call, sum: &mut Answer, last: Option<Last>) {
+    /// The stop in place of the next step.
+    fn stop(&mut self, next: &Call, last: Option<Last>) -> Answer {
         let opcode = code(next)[0];
         let read = Access::read(next.record.p.into(), opcode);
         self.has_stopped = true;
-        sum.number = if self.fault == NumberIsSeven { 7 } else { 12 };
-        let record = &mut next.record;
+        let number = if self.fault == NumberIsSeven { 7 } else { 12 };
+        let mut answer = Answer::refused(next, number);
+        let record = &mut answer.record;
         match self.fault {
             ReachedIsMoved if record.is_timer_reached => {
                 (record.is_timer_reached, record.ir1) = (false, true);
             }
-            StepIsCounted => sum.steps += 1,
-            StatesAreAdded => sum.states += 4,
+            StepIsCounted => answer.steps = 1,
+            StatesAreAdded => answer.states = 4,
             PMovesOn => record.p = record.p.wrapping_add(1),
-            OpcodeIsTheByte => sum.byte = opcode,
-            OpcodeIsRead => sum.log.iter_mut().for_each(|log| log.accesses.push(read)),
-            OpcodeIsLogged => next.bus_log.iter_mut().for_each(|log| log.append(&[read])),
+            OpcodeIsTheByte => answer.byte = opcode,
+            OpcodeIsRead => answer.log.iter_mut().for_each(|log| log.accesses.push(read)),
+            OpcodeIsLogged => answer.bus_log.iter_mut().for_each(|log| log.append(&[read])),
             LastStepIsUndone => *record = last.map_or(*record, |last| last.record),
             _ => {}
         }
+        answer
     }
 }
 

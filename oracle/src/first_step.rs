@@ -1,9 +1,9 @@
 //! A call's first step with IR0 set (document 02, F-6), which is no step of the original.
 //!
 //! The original does nothing while IR0 is set; document 02 has the unit enter IR0's routine, and claims
-//! agreement with the original for steps that begin with IR0 clear. No step sets IR0 (of the port that
-//! is a proved law, `step_ir0`; the original's file has no line that would), and none sets BF, so only
-//! a call's first step ever begins with both. That step is made here by the model alone: with the model
+//! agreement with the original for steps that begin with IR0 clear. After a step IR0 is set only where
+//! BF is clear (of the port that is a proved law, `reaches_off`; a step of the original sets neither),
+//! so only a call's first step ever begins with both. That step is made here by the model alone: with the model
 //! on the other side it is compared with itself. The original goes on from the record, the pages, the
 //! log, the steps, the states and the accesses that it has left. With BF clear such a step is the
 //! original's own, as ever.

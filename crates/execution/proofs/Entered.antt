@@ -5,11 +5,12 @@ use Rattle.arithmetic.specs.declared.record.Lh5801.{Lh5801}
 use Rattle.arithmetic.specs.Record.{with_t, with_s, with_p, with_is_halted, with_ir0, with_ir1, with_ir2}
 use Rattle.arithmetic.proofs.Status.{Status}
 use Rattle.pages.specs.Pages.{Pages}
-use Rattle.pages.specs.Prog.{◌>>=◌, read, write, after, exec}
+use Rattle.pages.specs.Prog.{Prog, ◌>>=◌, read, write, after, exec}
 use Rattle.pages.specs.Stack.{mem16_of, push_of, push_word_of, push_state_of, accept_of}
-use Rattle.pages.specs.Timer.{timer_part_of}
+use Rattle.pages.specs.Timer.{add_state_of, timer_part_of}
 use Rattle.pages.proofs.Always.{Always, always_then}
-use Rattle.pages.proofs.Timer.{timer_part_status}
+use Rattle.pages.proofs.Exec.{done_answer}
+use Rattle.pages.proofs.Timer.{timer_part_status, states_status}
 use Rattle.execution.specs.declared.Inputs.{Inputs}
 use Rattle.execution.specs.declared.instructions.Listed.{Listed}
 use Rattle.execution.specs.declared.Opcode.{Opcode}
@@ -71,6 +72,11 @@ module _ (m : Lh5801) where
     entry Ir2 = record { answer = refl; pages_are = refl; accesses = refl }
 
     module _ (inputs : Inputs) where
+      -- with BF clear
+      off_answer : m.bf ≡ false → (exec (step_of m inputs) pages).answer ≡ did (add_state_of m 8) 8 off
+      unfolding step_of
+      off_answer b = ap (λ (p : Prog StepEnd). (exec p pages).answer) (cond_false m.bf _ _ b) ∙ done_answer _ pages
+
       -- what the entry leaves
       pub enters : (i : Interrupt) → Enters m i → Entered i m pages (exec (step_of m inputs) pages)
       enters i e = rw (interrupt_step m inputs e.on i ((accepted_is m i).1 e.selected), reached_fields m) (entry i)
@@ -88,11 +94,11 @@ module _ (m : Lh5801) where
         λ r. (enters i r.0).answer ∙ sym (ap (λ (l : Lh5801). did l s (interrupt i)) r.1 ∙ ap (λ (n : ℕ). did (timer_part_of (entered_of m pages i)) n (interrupt i)) r.2),
       )
 
-      -- no step sets IR0: after a completed one it is set only where BF is clear and it was set before
+      -- no step sets IR0: after a completed one it is set only where BF is clear, as it was, and IR0 was set
       pub ir0_left : (k : Lh5801) (s : ℕ) (kind : Kind) → (exec (step_of m inputs) pages).answer ≡ did k s kind → k.ir0 ≡ true
-          → (m.bf ≡ false) × (m.ir0 ≡ true)
+          → (m.ir0 ≡ true) × (m.bf ≡ false) × (k.bf ≡ false)
       unfolding entered_of with_ir0
-      ir0_left k s kind e z = (go m.bf refl, before)
+      ir0_left k s kind e z = let o = go m.bf refl in (before, o.0, o.1)
         where
           before : m.ir0 ≡ true
           before = step_ir0 m inputs pages k s kind e z
@@ -100,8 +106,11 @@ module _ (m : Lh5801) where
           clear : (timer_part_of (entered_of m pages Ir0)).ir0 ≡ false
           clear = ap (λ (x : Status). x.ir0) (timer_part_status (entered_of m pages Ir0))
 
-          go : (b : Bool) → m.bf ≡ b → m.bf ≡ false
-          go false b = b
+          go : (b : Bool) → m.bf ≡ b → (m.bf ≡ false) × (k.bf ≡ false)
+          go false b =
+              let same : did (add_state_of m 8) 8 off ≡ did k s kind = sym (off_answer b) ∙ e in
+              let record_is : add_state_of m 8 ≡ k = cc in
+              (b, sym (ap (λ (l : Lh5801). l.bf) record_is) ∙ ap (λ (x : Status). x.bf) (states_status m 8) ∙ b)
           go true b =
               let same : did (timer_part_of (entered_of m pages Ir0)) 0 (interrupt Ir0) ≡ did k s kind =
               sym (enters Ir0 (record { on = b; selected = before })).answer ∙ e in

@@ -1,5 +1,5 @@
 -- How the steps of a call end: what they reach, and whether the log is full before the next step or the next step stops.
-use Rattle.std.proofs.Common.{◌≡◌, ℕ, zero, suc, ◌+◌, ◌*◌, ◌%◌, ◌^◌, ◌<◌, ◌≤◌, List, [], ◌++◌, refl, ap, append_assoc, append-nil, le_of_suc-le-suc, not-suc-le-zero, add-zero, add_assoc, suc-add, zero-add, arith, true}
+use Rattle.std.proofs.Common.{◌≡◌, ℕ, zero, suc, ◌+◌, ◌*◌, ◌%◌, ◌^◌, ◌<◌, ◌≤◌, List, [], ◌++◌, refl, ap, append_assoc, append-nil, le_of_suc-le-suc, not-suc-le-zero, add-zero, add_assoc, suc-add, zero-add, arith, true, false}
 use Rattle.std.specs.Prelude.{Option, None}
 use Rattle.arithmetic.specs.declared.record.Lh5801.{Lh5801}
 use Rattle.execution.specs.declared.Inputs.{Inputs}
@@ -9,6 +9,7 @@ use Rattle.execution.specs.declared.Stop.{Stop}
 use Rattle.execution.specs.Step.{Kind, did, step_of}
 use Rattle.execution.proofs.StepKeeps.{step_small, step_ticks, step_ir0}
 use Rattle.execution.proofs.StepStates.{step_states}
+use Rattle.execution.proofs.Entered.{ir0_left}
 use Rattle.run.specs.declared.End.TheVariants.{AllSteps, LogFull, Step}
 use Rattle.run.specs.BusLog.{free_after, Full, NotFull}
 use Rattle.run.specs.Run.{CallResult, call_result, no_step, completed, one_step, run_of}
@@ -140,7 +141,7 @@ pub reaches_logged : {inputs : Inputs} {free : Option ℕ} {j : ℕ} {m k : Lh58
 reaches_logged f h start = start
 reaches_logged f h (next g e r) = next f e (reaches_nothing (omega arith) r)
 
--- completed steps keep TM at most 511, set no IR0, and add their states, at most 255 each, to the ticks
+-- completed steps keep TM at most 511, set no IR0, leave it set only with BF clear, and add their states, at most 255 each, to the ticks
 module _ {inputs : Inputs} where
   pub reaches_small : {free : Option ℕ} {j : ℕ} {m k : Lh5801} {p q : Pages} {t : ℕ} {l : List Access} → Reaches inputs free j m p k q t l
       → m.tm < 512 → k.tm < 512
@@ -151,6 +152,11 @@ module _ {inputs : Inputs} where
       → k.ir0 ≡ true → m.ir0 ≡ true
   reaches_ir0 start h = h
   reaches_ir0 {m = m} {p = p} (next {n = n} {s = s} {kind = kind} f e r) h = step_ir0 m inputs p n s kind e (reaches_ir0 r h)
+
+  pub reaches_off : {free : Option ℕ} {j : ℕ} {m k : Lh5801} {p q : Pages} {t : ℕ} {l : List Access} → Reaches inputs free (suc j) m p k q t l
+      → k.ir0 ≡ true → k.bf ≡ false
+  reaches_off {m = m} {k = k} {p = p} (next {s = s} {kind = kind} f e start) h = (ir0_left m p inputs k s kind e h).2
+  reaches_off (next f e (next g x r)) h = reaches_off (next g x r) h
 
   pub reaches_ticks : {free : Option ℕ} {j : ℕ} {m k : Lh5801} {p q : Pages} {t : ℕ} {l : List Access} → Reaches inputs free j m p k q t l
       → k.ticks % 2 ^ 64 ≡ (m.ticks + t) % 2 ^ 64

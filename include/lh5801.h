@@ -55,16 +55,19 @@
  *
  * The interrupts
  *
- * A caller asks for an interrupt by a flag of the record, LH5801_IR0, LH5801_IR1 or LH5801_IR2, and
- * the unit's timer by timer reached, which becomes IR1 in the next step with BF set. With BF set a
- * step enters the first of these that it finds: IR0, whether IE is set or not (F-6); IR1, with IE
- * set; IR2, with IE set. T is pushed as it is, IE and the interrupt's own flag are cleared, P is
- * pushed, low byte first, P is read at FFFC for IR0, FFFA for IR1 or FFF8 for IR2, high byte first,
- * halted is cleared, no states are added, and the timer part is done. The vector is read after the
- * pushes, so what they stored may be the vector. The other two flags stay.
+ * A caller asks for an interrupt by a flag of the record, LH5801_IR0, LH5801_IR1 or LH5801_IR2. Timer
+ * reached asks for IR1, which it becomes in each step with BF set that is completed. With BF set the
+ * first of these that a step finds is accepted: IR0, whether IE is set or not (F-6); IR1, with IE set;
+ * IR2, with IE set. The step is then its entry: T is pushed as it is, IE and the interrupt's own flag
+ * are cleared, P is pushed, low byte first, P is read at FFFC for IR0, FFFA for IR1 or FFF8 for IR2,
+ * high byte first, halted is cleared, no states are added, and the timer part is done. The vector is
+ * read after the pushes, so what they stored may be the vector. The other two stay asked for. With BF
+ * clear nothing is accepted, and all flags stay.
  *
- * With BF clear nothing is entered, and all flags stay. No step sets IR0: where it comes back set, no
- * step was done, or BF was clear.
+ * A call under way cannot be told: a flag counts from the next call on, so a host cuts a run into
+ * calls as short as the delay that it allows. A flag that is set is one entry, which clears it, and
+ * no step sets IR0: where it comes back set, no step was done, or BF was clear. Nothing masks IR0: a
+ * host that sets it again while its routine runs enters it again, three bytes further down the stack.
  *
  * The settings
  *

@@ -5,7 +5,7 @@ use Rattle.arithmetic.specs.declared.record.Lh5801.{Lh5801}
 use Rattle.arithmetic.specs.declared.Sum.{Sum}
 use Rattle.arithmetic.specs.Flags.{CF, IE, ZF, has_flag, set_flag, with_flags}
 use Rattle.arithmetic.specs.Logic.{lda_of, and_of, ora_of, eor_of, bit_test_of, tta_of}
-use Rattle.arithmetic.specs.Record.{with_a, with_t, with_x, with_y, with_u, with_s, with_p, with_is_halted, with_pu, with_pv, with_bf, with_disp, with_tm, with_ir1, with_is_timer_reached, with_timer_state, with_step_previous_state, with_ticks}
+use Rattle.arithmetic.specs.Record.{with_a, with_t, with_x, with_y, with_u, with_s, with_p, with_is_halted, with_pu, with_pv, with_bf, with_disp, with_tm, with_is_timer_reached, with_timer_state, with_step_previous_state, with_ticks}
 use Rattle.arithmetic.specs.Sums.{add_of, inverted, carry_of, with_sum, adc_of, sbc_of, cpa_of, adr_of}
 use Rattle.arithmetic.specs.Decimal.{plus66, decimal_sum_of, dca_sum, dcs_sum, dca_of, dcs_of}
 use Rattle.arithmetic.specs.Shifts.{left_of, right_of}
@@ -228,14 +228,6 @@ module _ (m : Lh5801) where
   pub steady_halted : (v : Bool) → Steady m (with_is_halted m v)
   unfolding with_is_halted
   steady_halted v = record { tm = refl; ticks = refl; ir0 = λ e. e }
-
-  pub steady_ir1 : (v : Bool) → Steady m (with_ir1 m v)
-  unfolding with_ir1
-  steady_ir1 v = record { tm = refl; ticks = refl; ir0 = λ e. e }
-
-  pub steady_reached : (v : Bool) → Steady m (with_is_timer_reached m v)
-  unfolding with_is_timer_reached
-  steady_reached v = record { tm = refl; ticks = refl; ir0 = λ e. e }
 
   -- P changes neither T nor U
   pub p_keeps : (v : ℕ) → ((with_p m v).t ≡ m.t) × ((with_p m v).u ≡ m.u)

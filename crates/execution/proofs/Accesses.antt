@@ -17,12 +17,12 @@ use Rattle.std.specs.Prelude.{Option, Some, None}
 use Rattle.pages.specs.declared.Code.{Code}
 use Rattle.execution.specs.declared.Opcode.{Opcode}
 use Rattle.execution.specs.declared.interrupts.Interrupt.{Interrupt}
-use Rattle.execution.specs.Interrupts.{cleared, vector_address}
+use Rattle.execution.specs.Interrupts.{accepted, cleared, vector_address}
 use Rattle.execution.specs.Places.{word_in, locate_of, operand_of}
 use Rattle.execution.specs.Instructions.{alu_of, store_of, sta_of, memory_of, bii_of, drr_of, drl_of, load_of, compare_of, store_at_of, load_at_of, sin_of, sde_of, lin_of, lde_of, holds_of, branch_of, lop_of, vector_of, vector_if_of, jmp_of, sjp_of, rtn_of, rti_of, load_sOf, tin_of, cin_of, pop_to_of, push_from_of, execute_of}
-use Rattle.execution.specs.Step.{decoded_by, fetch_of, decoded_step_of, instruction_of, interrupt_of, powered_of, step_of}
+use Rattle.execution.specs.Step.{decoded_by, fetch_of, decoded_step_of, instruction_of, interrupt_of, reached_of, powered_of, step_of}
 use Rattle.execution.proofs.Choices.{cond_both}
-use Rattle.execution.proofs.Ways.{moved, powered_ways, step_ways}
+use Rattle.execution.proofs.Ways.{powered_ways, step_ways}
 
 module _ (m : Lh5801) where
   most_located : (place : Place) → AtMost 2 (locate_of m place)
@@ -118,4 +118,4 @@ most_powered m inputs a = powered_ways (AtMost 7) m inputs a (λ i _. most_inter
 -- a step makes at most seven accesses
 pub step_accesses_lem : (m : Lh5801) (inputs : Inputs) (pages : Pages) → length (exec (step_of m inputs) pages).accesses ≤ 7
 step_accesses_lem m inputs pages =
-    most_exec 7 (step_of m inputs) (step_ways (AtMost 7) m inputs tt (most_powered (moved m) inputs) (most_powered m inputs)) pages
+    most_exec 7 (step_of m inputs) (step_ways (AtMost 7) m inputs (λ _. tt) (λ _. most_powered (reached_of m) inputs (accepted m))) pages

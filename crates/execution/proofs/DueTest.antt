@@ -9,7 +9,7 @@ use Rattle.execution.proofs.Choices.{none_left, none_right}
 use Rattle.execution.proofs.Accepted.{none_accepted}
 use Rattle.execution.proofs.StopAddress.{stops_at_is}
 
--- the three parts of `Due`, with `r` for the requests of which one is accepted
+-- the three parts of the test: BF, an interrupt, halted
 parts : (bf r h : Bool) → bf && not (r || h) ≡ true → (bf ≡ true) × (r ≡ false) × (h ≡ false)
 parts false r h t = absurd (false≢true t)
 parts true true h t = absurd (false≢true t)
@@ -20,7 +20,7 @@ both_true : (a b : Bool) → a && b ≡ true → (a ≡ true) × (b ≡ true)
 both_true true b e = (refl, e)
 both_true false b e = absurd (false≢true e)
 
--- of two requests none is accepted
+-- neither of two truth values
 neither : (a b : Bool) → a || b ≡ false → (a ≡ false) × (b ≡ false)
 neither a b e = (none_left a b e, none_right a b e)
 

@@ -1,5 +1,5 @@
 -- Which interrupt a step enters, and what the entry leaves, field by field; and that no step sets IR0.
-use Rattle.std.proofs.Common.{◌≡◌, ℕ, Bool, true, false, ◌||◌, ◌↔◌, sym, refl, ap, ◌∙◌, subst, true≢false}
+use Rattle.std.proofs.Common.{◌≡◌, ℕ, Bool, true, false, ◌||◌, ◌↔◌, sym, refl, ap, ◌∙◌, true≢false}
 use Rattle.std.specs.Prelude.{Option, Some, None}
 use Rattle.arithmetic.specs.declared.record.Lh5801.{Lh5801}
 use Rattle.arithmetic.specs.Record.{with_t, with_s, with_p, with_is_halted, with_ir0, with_ir1, with_ir2}
@@ -21,23 +21,22 @@ use Rattle.execution.specs.Instructions.{execute_of}
 use Rattle.execution.specs.Interrupts.{accepted, cleared, vector_address}
 use Rattle.execution.specs.Step.{Kind, off, interrupt, waiting, instruction, StepEnd, did, decoded_by, fetch_of, decoded_step_of, instruction_of, interrupt_of, reached_of, step_of}
 use Rattle.execution.specs.Entered.{Enters, entered_of, Entered}
-use Rattle.execution.proofs.Choices.{cond_false}
 use Rattle.execution.proofs.Accepted.{accepted_is}
 use Rattle.execution.proofs.StepKeeps.{step_ir0}
-use Rattle.execution.proofs.Tests.{powered_step, interrupt_step}
-use Rattle.execution.proofs.TimerReached.{asked, reached_fields}
-use Rattle.execution.proofs.Ways.{Did, did_exec, powered_ways}
+use Rattle.execution.proofs.Tests.{interrupt_step}
+use Rattle.execution.proofs.TimerReached.{with_ir1_reached, reached_fields}
+use Rattle.execution.proofs.Ways.{Did, did_exec, step_is_off, powered_ways, step_ways}
 
 module _ (m : Lh5801) where
-  -- a step is of an interrupt's kind only from such a record
-  abbrev FromLines : Kind → Type 0
-  FromLines off = Unit {0}
-  FromLines (interrupt i) = Enters m i
-  FromLines waiting = Unit {0}
-  FromLines (instruction opcode) = Unit {0}
+  -- what a step's kind says of the record before it: an interrupt's, that it is entered from there
+  abbrev FromRecord : Kind → Type 0
+  FromRecord off = Unit {0}
+  FromRecord (interrupt i) = Enters m i
+  FromRecord waiting = Unit {0}
+  FromRecord (instruction opcode) = Unit {0}
 
   abbrev EntersOnly : StepEnd → Type 0
-  EntersOnly = Did (λ k n kind. FromLines kind)
+  EntersOnly = Did (λ k n kind. FromRecord kind)
 
   module _ (inputs : Inputs) where
     only_decoded : (k : Lh5801) (o : Code Opcode) (d : Option Listed) → Always EntersOnly (decoded_step_of k inputs o d)
@@ -54,18 +53,13 @@ module _ (m : Lh5801) where
     only_interrupt k i e = always_then EntersOnly (accept_of (cleared k i) (vector_address i)) _ (λ r. e)
 
     enters_only : Always EntersOnly (step_of m inputs)
-    unfolding step_of
-    enters_only = go m.bf refl
-      where
-        go : (b : Bool) → m.bf ≡ b → Always EntersOnly (step_of m inputs)
-        go false b = subst (Always EntersOnly) (sym (cond_false m.bf _ _ b)) tt
-        go true b =
-            subst (Always EntersOnly) (sym (powered_step m inputs b (accepted m) refl))
-            (powered_ways (Always EntersOnly) (reached_of m) inputs (accepted m) (λ i e. only_interrupt (reached_of m) i (record { on = b; selected = (accepted_is m i).0 e })) tt tt tt
-            (only_instruction (reached_of m)))
+    enters_only =
+        step_ways (Always EntersOnly) m inputs (λ _. tt)
+        (λ b. powered_ways (Always EntersOnly) (reached_of m) inputs (accepted m)
+        (λ i e. only_interrupt (reached_of m) i (record { on = b; selected = (accepted_is m i).0 e })) tt tt tt (only_instruction (reached_of m)))
 
   module _ (pages : Pages) where
-    entry : (i : Interrupt) → Entered i m pages (exec (interrupt_of (asked m (m.ir1 || m.is_timer_reached) false) i) pages)
+    entry : (i : Interrupt) → Entered i m pages (exec (interrupt_of (with_ir1_reached m (m.ir1 || m.is_timer_reached) false) i) pages)
     unfolding interrupt_of accept_of push_state_of push_word_of push_of mem16_of read write ◌>>=◌ exec after with_t with_s with_p with_is_halted with_ir0 with_ir1 with_ir2 entered_of
     entry Ir0 = record { answer = refl; pages_are = refl; accesses = refl }
     entry Ir1 = record { answer = refl; pages_are = refl; accesses = refl }
@@ -74,19 +68,19 @@ module _ (m : Lh5801) where
     module _ (inputs : Inputs) where
       -- with BF clear
       off_answer : m.bf ≡ false → (exec (step_of m inputs) pages).answer ≡ did (add_state_of m 8) 8 off
-      unfolding step_of
-      off_answer b = ap (λ (p : Prog StepEnd). (exec p pages).answer) (cond_false m.bf _ _ b) ∙ done_answer _ pages
+      off_answer b = ap (λ (p : Prog StepEnd). (exec p pages).answer) (step_is_off m inputs b) ∙ done_answer _ pages
 
       -- what the entry leaves
       pub enters : (i : Interrupt) → Enters m i → Entered i m pages (exec (step_of m inputs) pages)
       enters i e = rw (interrupt_step m inputs e.on i ((accepted_is m i).1 e.selected), reached_fields m) (entry i)
 
-      -- a step is an entry of this interrupt, with this record and these states, exactly from such a record and where it is that record and they are 0
+      -- a step ends as the entry of i, with the record k and s states, exactly where m is one of the records that enter i, k is what the entry leaves, and s
+      -- is 0
       pub interrupt_kind : (i : Interrupt) (k : Lh5801) (s : ℕ)
           → ((exec (step_of m inputs) pages).answer ≡ did k s (interrupt i)) ↔ (Enters m i × (k ≡ timer_part_of (entered_of m pages i)) × (s ≡ 0))
       interrupt_kind i k s = (
         λ e.
-            let l : Enters m i = did_exec (λ k n kind. FromLines kind) (step_of m inputs) (enters_only inputs) pages k s (interrupt i) e in
+            let l : Enters m i = did_exec (λ k n kind. FromRecord kind) (step_of m inputs) (enters_only inputs) pages k s (interrupt i) e in
             let same : did (timer_part_of (entered_of m pages i)) 0 (interrupt i) ≡ did k s (interrupt i) = sym (enters i l).answer ∙ e in
             let record_is : k ≡ timer_part_of (entered_of m pages i) = cc in
             let states_are : s ≡ 0 = cc in

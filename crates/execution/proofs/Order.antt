@@ -7,7 +7,7 @@ use Rattle.arithmetic.specs.declared.Looped.{Looped}
 use Rattle.arithmetic.specs.Shifts.{looped_of}
 use Rattle.arithmetic.specs.Record.{with_u, with_p}
 use Rattle.pages.specs.declared.Memory.{Memory}
-use Rattle.pages.specs.Prog.{done, mapped}
+use Rattle.pages.specs.Prog.{mapped}
 use Rattle.pages.specs.Contract.{Does}
 use Rattle.pages.specs.Stack.{accept_of}
 use Rattle.pages.specs.Timer.{add_state_of, timer_part_of}
@@ -24,14 +24,15 @@ use Rattle.execution.specs.declared.Stop.{Stop}
 use Rattle.execution.specs.declared.Stop.TheVariants.{Unlisted}
 use Rattle.execution.specs.Instructions.{branched_of, execute_of}
 use Rattle.execution.specs.States.{added_of}
-use Rattle.execution.specs.Step.{off, interrupt, instruction, StepEnd, did, stopped, fetch_of, decoded_by, decoded_step_of, instruction_of, interrupt_of, reached_of, halted_of, due_instruction_of, powered_of, step_of}
+use Rattle.execution.specs.Step.{off, interrupt, instruction, StepEnd, did, stopped, fetch_of, decoded_by, decoded_step_of, instruction_of, interrupt_of, reached_of, halted_of, due_instruction_of, step_of}
 use Rattle.execution.specs.Code.Outcomes.{outcome_of}
 use Rattle.execution.specs.Code.Due.{due_of, Ready, settled_of, settled_by, executed_of}
-use Rattle.execution.proofs.Choices.{cond_both, cond_false}
+use Rattle.execution.proofs.Choices.{cond_both}
 use Rattle.execution.specs.declared.interrupts.Interrupt.{Interrupt}
 use Rattle.execution.specs.Interrupts.{accepted, cleared, vector_address}
 use Rattle.execution.specs.Inputs.{stops_at}
 use Rattle.execution.proofs.TimerReached.{reached_stays, reached_accepted, reached_ready}
+use Rattle.execution.proofs.Ways.{step_is_off}
 use Rattle.execution.proofs.Tests.{interrupt_step, halting_step, due_step, fetching_step}
 use Rattle.execution.proofs.DueTest.{due_is}
 use Rattle.execution.proofs.StopAddress.{elsewhere_is}
@@ -105,10 +106,8 @@ executed_step m inputs d = does_through executed_of outcome_of outcome_in execut
 -- a step in which no instruction is due, by what the code tests
 module _ (m : Lh5801) (inputs : Inputs) where
   pub step_off : {p : Memory} {r : Lh5801} → m.bf ≡ false → r ≡ add_state_of m 8 → Does (mapped outcome_of (step_of m inputs)) p (Ok r) p
-  unfolding step_of
   step_off {r = r} e f =
-      rw (cond_false _ (powered_of (reached_of m) inputs (accepted (reached_of m))) (done (did (add_state_of m 8) 8 off)) e)
-      (does_mapped outcome_of {r = did r 8 off} (does_done (ap (λ (x : Lh5801). did x 8 off) f)))
+      rw (step_is_off m inputs e) (does_mapped outcome_of {r = did r 8 off} (does_done (ap (λ (x : Lh5801). did x 8 off) f)))
 
   module _ (on : m.bf ≡ true) {k : Lh5801} (moved : k ≡ reached_of m) where
     -- k accepts the same

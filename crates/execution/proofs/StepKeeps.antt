@@ -1,10 +1,10 @@
 -- A completed step keeps TM at most 511, adds its states to the ticks, and sets no IR0.
-use Rattle.std.proofs.Common.{◌≡◌, ℕ, ◌+◌, ◌%◌, ◌^◌, ◌<◌, Bool, true, false, not, eqb, sym, refl, ap, ◌∙◌, add-zero, arith}
+use Rattle.std.proofs.Common.{◌≡◌, ℕ, ◌+◌, ◌%◌, ◌^◌, ◌<◌, Bool, true, not, eqb, sym, refl, ap, ◌∙◌, add-zero, arith}
 use mathlib.Core.Bool.{false≢true}
 use Rattle.arithmetic.specs.declared.record.Lh5801.{Lh5801}
 use Rattle.execution.specs.declared.Inputs.{Inputs}
 use Rattle.arithmetic.specs.Record.{with_p, with_ir0, with_ir1, with_ir2}
-use Rattle.arithmetic.proofs.Status.{Status, Steady, p_keeps, keeps_p, steady_ir1, steady_reached, steady_status, steady_then}
+use Rattle.arithmetic.proofs.Status.{Status, Steady, p_keeps, keeps_p, steady_status, steady_then}
 use Rattle.pages.specs.Pages.{Pages}
 use Rattle.pages.specs.Stack.{accept_of}
 use Rattle.pages.specs.Prog.{exec}
@@ -19,11 +19,12 @@ use Rattle.pages.specs.declared.Code.{Code}
 use Rattle.execution.specs.declared.Opcode.{Opcode}
 use Rattle.execution.specs.declared.interrupts.Interrupt.{Interrupt}
 use Rattle.execution.specs.declared.interrupts.Interrupt.TheVariants.{Ir0, Ir1, Ir2}
-use Rattle.execution.specs.Interrupts.{cleared, vector_address}
+use Rattle.execution.specs.Interrupts.{accepted, cleared, vector_address}
 use Rattle.execution.specs.Instructions.{holds_of, execute_of}
 use Rattle.execution.specs.States.{Adds, nothing, branch, loop, vector_if, vector, adds_of, taken_from, added_of}
-use Rattle.execution.specs.Step.{Kind, StepEnd, did, decoded_by, fetch_of, decoded_step_of, instruction_of, interrupt_of, powered_of, step_of}
-use Rattle.execution.proofs.Ways.{Did, did_exec, moved, powered_ways, step_ways}
+use Rattle.execution.specs.Step.{Kind, StepEnd, did, decoded_by, fetch_of, decoded_step_of, instruction_of, interrupt_of, reached_of, powered_of, step_of}
+use Rattle.execution.proofs.Ways.{Did, did_exec, powered_ways, step_ways}
+use Rattle.execution.proofs.TimerReached.{reached_fields}
 use Rattle.execution.proofs.Effects.{Effect, executed}
 
 taken_any_p : (m : Lh5801) (p : ℕ) (a : Adds) → taken_from (with_p m p) a ≡ taken_from m a
@@ -43,6 +44,10 @@ unfolding with_ir0 with_ir1 with_ir2
 steady_cleared m Ir0 = record { tm = refl; ticks = refl; ir0 = λ e. absurd (false≢true e) }
 steady_cleared m Ir1 = record { tm = refl; ticks = refl; ir0 = λ e. e }
 steady_cleared m Ir2 = record { tm = refl; ticks = refl; ir0 = λ e. e }
+
+-- and timer reached moved to IR1
+steady_moved : (m : Lh5801) → Steady m (reached_of m)
+steady_moved m = rw (reached_fields m) (record { tm = refl; ticks = refl; ir0 = λ e. e })
 
 -- TM, the ticks and IR0 after e states
 abbrev Counted : Lh5801 → ℕ → Lh5801 → Type 0
@@ -102,9 +107,8 @@ module _ (m : Lh5801) (inputs : Inputs) where
 
   counted_step : Always (CountedEnd m) (step_of m inputs)
   counted_step =
-      let own : Steady m m = steady_status m m refl in
-      step_ways (Always (CountedEnd m)) m inputs (counted_states m 8 0 (counted_same m own))
-      (counted_powered (moved m) (steady_then (steady_ir1 m true) (steady_reached (with_ir1 m true) false))) (counted_powered m own)
+      step_ways (Always (CountedEnd m)) m inputs (λ _. counted_states m 8 0 (counted_same m (steady_status m m refl)))
+      (λ _. counted_powered (reached_of m) (steady_moved m) (accepted m))
 
 -- a completed step keeps TM at most 511
 pub step_small : (m : Lh5801) (inputs : Inputs) → m.tm < 512

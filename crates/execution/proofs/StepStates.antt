@@ -16,11 +16,11 @@ use Rattle.execution.specs.declared.Opcode.{Opcode}
 use Rattle.execution.specs.declared.Opcode.TheVariants.{First, AfterFd}
 use Rattle.execution.specs.declared.interrupts.Interrupt.{Interrupt}
 use Rattle.execution.specs.Instructions.{execute_of}
-use Rattle.execution.specs.Interrupts.{cleared, vector_address}
+use Rattle.execution.specs.Interrupts.{accepted, cleared, vector_address}
 use Rattle.execution.specs.States.{adds_of, added_when_taken, taken_from, added_of}
-use Rattle.execution.specs.Step.{Kind, off, interrupt, waiting, instruction, fewest_states, most_states, StepEnd, did, decoded_by, fetch_of, decoded_step_of, instruction_of, interrupt_of, powered_of, step_of}
+use Rattle.execution.specs.Step.{Kind, off, interrupt, waiting, instruction, fewest_states, most_states, StepEnd, did, decoded_by, fetch_of, decoded_step_of, instruction_of, interrupt_of, reached_of, powered_of, step_of}
 use Rattle.execution.proofs.Choices.{cond_both}
-use Rattle.execution.proofs.Ways.{Did, did_exec, moved, powered_ways, step_ways}
+use Rattle.execution.proofs.Ways.{Did, did_exec, powered_ways, step_ways}
 use Rattle.execution.proofs.Listed.{listed_states, listed_states_fd}
 
 -- the states are no fewer and no more than the kind's
@@ -61,7 +61,8 @@ fits_powered m inputs a =
     powered_ways (Always (Fits inputs)) m inputs a (λ i _. fits_interrupt inputs m i) tt (omega arith, omega arith) tt (fits_instruction m inputs)
 
 fits_step : (m : Lh5801) (inputs : Inputs) → Always (Fits inputs) (step_of m inputs)
-fits_step m inputs = step_ways (Always (Fits inputs)) m inputs (omega arith, omega arith) (fits_powered (moved m) inputs) (fits_powered m inputs)
+fits_step m inputs =
+    step_ways (Always (Fits inputs)) m inputs (λ _. (omega arith, omega arith)) (λ _. fits_powered (reached_of m) inputs (accepted m))
 
 -- a completed step has the states of its kind: 8 with BF clear, 0 where an interrupt is accepted, the idle figure where it waits, 4 to 23 for an
 -- instruction

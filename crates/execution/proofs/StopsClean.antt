@@ -17,11 +17,11 @@ use Rattle.pages.specs.declared.Code.{Code}
 use Rattle.execution.specs.declared.Opcode.{Opcode}
 use Rattle.execution.specs.declared.Stop.{Stop}
 use Rattle.execution.specs.declared.interrupts.Interrupt.{Interrupt}
-use Rattle.execution.specs.Interrupts.{cleared, vector_address}
+use Rattle.execution.specs.Interrupts.{accepted, cleared, vector_address}
 use Rattle.execution.specs.Instructions.{execute_of}
-use Rattle.execution.specs.Step.{Kind, off, interrupt, waiting, instruction, StepEnd, did, stopped, decoded_by, fetch_of, decoded_step_of, instruction_of, interrupt_of, powered_of, step_of}
+use Rattle.execution.specs.Step.{Kind, off, interrupt, waiting, instruction, StepEnd, did, stopped, decoded_by, fetch_of, decoded_step_of, instruction_of, interrupt_of, reached_of, powered_of, step_of}
 use Rattle.execution.proofs.Choices.{cond_both}
-use Rattle.execution.proofs.Ways.{moved, powered_ways, step_ways}
+use Rattle.execution.proofs.Ways.{powered_ways, step_ways}
 
 -- the step was completed
 abbrev pub IsDid : StepEnd → Type 0
@@ -76,4 +76,4 @@ clean_powered m inputs a =
 pub stop_no_write : (m : Lh5801) (inputs : Inputs) (pages : Pages) (s : Stop) → (exec (step_of m inputs) pages).answer ≡ stopped s
     → (writes (exec (step_of m inputs) pages).accesses ≡ []) × ((exec (step_of m inputs) pages).pages ≡ pages)
 stop_no_write m inputs pages s e =
-    clean_exec IsDid (step_of m inputs) (step_ways (Clean IsDid) m inputs tt (clean_powered (moved m) inputs) (clean_powered m inputs)) pages (subst IsDid e)
+    clean_exec IsDid (step_of m inputs) (step_ways (Clean IsDid) m inputs (λ _. tt) (λ _. clean_powered (reached_of m) inputs (accepted m))) pages (subst IsDid e)

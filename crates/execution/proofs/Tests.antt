@@ -13,20 +13,19 @@ use Rattle.execution.specs.declared.Stop.TheVariants.{Halted, AtAddress}
 use Rattle.execution.specs.Conditions.{Halting, Due, AddressStop, Fetches}
 use Rattle.execution.proofs.StopAddress.{stops_at_is, elsewhere_is}
 use Rattle.execution.proofs.Choices.{cond_true, cond_false}
-use Rattle.execution.proofs.TimerReached.{reached_p, reached_halted, reached_accepted}
+use Rattle.execution.proofs.TimerReached.{reached_p, reached_halted}
+use Rattle.execution.proofs.Ways.{step_is_off, step_is_powered}
 use Rattle.execution.proofs.StopsClean.{IsActive, active_interrupt}
 
 module _ (m : Lh5801) where
   module _ (inputs : Inputs) where
     -- with BF clear a step is completed
     pub off_step : m.bf ≡ false → Always IsActive (step_of m inputs)
-    unfolding step_of
-    off_step b = subst (Always IsActive) (sym (cond_false m.bf _ _ b)) tt
+    off_step b = subst (Always IsActive) (sym (step_is_off m inputs b)) tt
 
     module _ (on : m.bf ≡ true) where
-      pub powered_step : (a : Option Interrupt) → accepted m ≡ a → step_of m inputs ≡ powered_of (reached_of m) inputs a
-      unfolding step_of
-      powered_step a e = cond_true m.bf _ _ on ∙ ap (λ (x : Option Interrupt). powered_of (reached_of m) inputs x) (reached_accepted m ∙ e)
+      powered_step : (a : Option Interrupt) → accepted m ≡ a → step_of m inputs ≡ powered_of (reached_of m) inputs a
+      powered_step a e = step_is_powered m inputs on ∙ ap (λ (x : Option Interrupt). powered_of (reached_of m) inputs x) e
 
       -- an interrupt is accepted: it is entered
       pub interrupt_step : (i : Interrupt) → accepted m ≡ Some i → step_of m inputs ≡ interrupt_of (reached_of m) i

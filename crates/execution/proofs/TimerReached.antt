@@ -7,7 +7,6 @@ use Rattle.execution.specs.Interrupts.{accepted}
 use Rattle.execution.specs.Step.{reached_of}
 use Rattle.execution.specs.Code.Due.{due_of, Ready}
 use Rattle.execution.proofs.Choices.{cond_false}
-use Rattle.execution.proofs.Ways.{moved}
 
 module _ (m : Lh5801) where
   -- with timer reached clear nothing moves
@@ -16,16 +15,16 @@ module _ (m : Lh5801) where
   reached_stays e = cond_false _ _ _ e
 
   -- IR1 and timer reached as given, every other field as it was
-  abbrev pub asked : Bool → Bool → Lh5801
-  asked ir1 reached = record m { ir1 = ir1; is_timer_reached = reached }
+  abbrev pub with_ir1_reached : Bool → Bool → Lh5801
+  with_ir1_reached ir1 reached = record m { ir1 = ir1; is_timer_reached = reached }
 
-  pub reached_fields : reached_of m ≡ asked (m.ir1 || m.is_timer_reached) false
+  pub reached_fields : reached_of m ≡ with_ir1_reached (m.ir1 || m.is_timer_reached) false
   unfolding reached_of with_ir1 with_is_timer_reached
   reached_fields = go m.is_timer_reached refl
     where
-      go : (b : Bool) → m.is_timer_reached ≡ b → cond b (moved m) m ≡ asked (m.ir1 || b) false
-      go true e = ap (λ (i : Bool). asked i false) (sym (or-true m.ir1))
-      go false e = ap (asked m.ir1) e ∙ ap (λ (i : Bool). asked i false) (sym (or-false m.ir1))
+      go : (b : Bool) → m.is_timer_reached ≡ b → cond b (with_ir1_reached true false) m ≡ with_ir1_reached (m.ir1 || b) false
+      go true e = ap (λ (i : Bool). with_ir1_reached i false) (sym (or-true m.ir1))
+      go false e = ap (with_ir1_reached m.ir1) e ∙ ap (λ (i : Bool). with_ir1_reached i false) (sym (or-false m.ir1))
 
   pub reached_p : (reached_of m).p ≡ m.p
   reached_p = ap (λ (k : Lh5801). k.p) reached_fields
@@ -38,7 +37,7 @@ module _ (m : Lh5801) where
   reached_accepted = ap accepted reached_fields ∙ rw (or-false (m.ir1 || m.is_timer_reached))
 
   -- an instruction is due or not as before, and then timer reached is clear
-  pub reached_due : due_of (reached_of m) ≡ due_of m
+  reached_due : due_of (reached_of m) ≡ due_of m
   reached_due = ap due_of reached_fields ∙ rw (or-false (m.ir1 || m.is_timer_reached))
 
   pub reached_ready : due_of m ≡ true → Ready (reached_of m)

@@ -10,7 +10,7 @@ use Rattle.pages.proofs.Timer.{elapsed}
 use Rattle.execution.specs.Step.{waiting, did, reached_of, step_of}
 use Rattle.execution.specs.Conditions.{Waits}
 use Rattle.execution.specs.Waiting.{states_after, shifts, waited_of, Waited}
-use Rattle.execution.proofs.TimerReached.{asked, reached_fields}
+use Rattle.execution.proofs.TimerReached.{with_ir1_reached, reached_fields}
 use Rattle.execution.proofs.Tests.{halting_step, halted_waits}
 use Rattle.execution.proofs.StopConditions.{waiting_only}
 
@@ -19,14 +19,14 @@ module _ (m : Lh5801) where
   waited_fields : (idle : ℕ) → timer_part_of (add_state_of (reached_of m) idle) ≡ waited_of m idle
   unfolding waited_of
   waited_fields idle =
-      ap (λ (k : Lh5801). timer_part_of (add_state_of k idle)) (reached_fields m) ∙ elapsed (asked m request false) idle ∙ go (shifts m idle)
+      ap (λ (k : Lh5801). timer_part_of (add_state_of k idle)) (reached_fields m) ∙ elapsed (with_ir1_reached m request false) idle ∙ go (shifts m idle)
     where
       request : Bool
       request = m.ir1 || m.is_timer_reached
 
       after : Bool → ℕ → ℕ → Lh5801
       after reached tm previous =
-          record (asked m request reached) { tm = tm; timer_state = states_after m idle; step_previous_state = previous; ticks = (m.ticks + idle) % 2 ^ 64 }
+          record (with_ir1_reached m request reached) { tm = tm; timer_state = states_after m idle; step_previous_state = previous; ticks = (m.ticks + idle) % 2 ^ 64 }
 
       full : Bool
       full = eqb (shift_of m.tm) 0x1FF

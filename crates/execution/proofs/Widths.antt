@@ -1,10 +1,10 @@
 -- From a record within its widths, on pages that hold bytes: the accesses of a step fit, and so do the record and the pages after it.
-use Rattle.std.proofs.Common.{◌≡◌, ℕ, ◌+◌, ◌<◌, Bool, true, false, T, eqb, refl, arith, lt_of_le_of_lt, ltb→lt}
+use Rattle.std.proofs.Common.{◌≡◌, ℕ, ◌+◌, ◌<◌, Bool, true, false, ◌||◌, T, eqb, refl, arith, lt_of_le_of_lt, ltb→lt}
 use lib.Bits.{bit_and, bit_or, and_le_l, or_lt}
 use Rattle.std.specs.Prelude.{Option, Some, None}
 use Rattle.arithmetic.specs.declared.record.Lh5801.{Lh5801}
 use Rattle.arithmetic.specs.Flags.{CF, IE, ZF}
-use Rattle.arithmetic.specs.Record.{with_t, with_x, with_u, with_s, with_p, with_ir1}
+use Rattle.arithmetic.specs.Record.{with_t, with_x, with_u, with_s, with_p, with_ir1, with_is_timer_reached}
 use Rattle.arithmetic.specs.Shifts.{looped_of}
 use Rattle.arithmetic.specs.Sums.{carry_of}
 use Rattle.arithmetic.specs.Widths.{Widths}
@@ -44,11 +44,12 @@ use Rattle.execution.specs.Places.{word_in, with_word, half_in, with_half, addre
 use Rattle.execution.specs.Instructions.{operated, changed_of, alu_of, store_of, sta_of, memory_of, bii_of, drr_of, drl_of, load_of, compare_of, inc_half_of, dec_half_of, inc_word_of, dec_word_of, store_at_of, load_at_of, sin_of, sde_of, lin_of, lde_of, holds_of, branched_of, branch_of, lop_of, vector_of, vector_if_of, jmp_of, sjp_of, rtn_of, rti_of, load_sOf, tin_of, cin_of, on_aOf, signal_of, pop_to_of, push_from_of, to_xOf, from_xOf, adr_in_of, cdv_of, drop_word_of, execute_of}
 use Rattle.execution.specs.declared.interrupts.Interrupt.{Interrupt}
 use Rattle.execution.specs.declared.interrupts.Interrupt.TheVariants.{Ir0, Ir1, Ir2}
-use Rattle.execution.specs.Interrupts.{cleared, vector_address}
-use Rattle.execution.specs.Step.{StepEnd, decoded_by, fetch_of, decoded_step_of, instruction_of, interrupt_of, powered_of, step_of}
+use Rattle.execution.specs.Interrupts.{accepted, cleared, vector_address}
+use Rattle.execution.specs.Step.{StepEnd, decoded_by, fetch_of, decoded_step_of, instruction_of, interrupt_of, reached_of, powered_of, step_of}
 use Rattle.execution.proofs.Choices.{cond_both}
 use Rattle.execution.proofs.Listed.{vector_fits, listed_vectors}
-use Rattle.execution.proofs.Ways.{Did, moved, powered_ways, step_ways}
+use Rattle.execution.proofs.Ways.{Did, powered_ways, step_ways}
+use Rattle.execution.proofs.TimerReached.{reached_fields}
 
 address_fits : (v : ℕ) → v < 0x10000 → (page : Page) → address_of v page < 0x20000
 address_fits v h Me0 = omega (arith, h)
@@ -301,6 +302,10 @@ module _ (inputs : Inputs) (byte : inputs.keyboard < 0x100) where
   unfolding instruction_of
   width_instruction m w = width_bind _ _ _ _ (width_fetch m.p w.p) (λ o h. width_decoded m w o h (decoded_by o.value) refl)
 
+  widths_moved : (m : Lh5801) → Widths m → Widths (reached_of m)
+  unfolding with_ir1 with_is_timer_reached
+  widths_moved m w = rw (reached_fields m) (widths_reached (with_ir1 m (m.ir1 || m.is_timer_reached)) (widths_ir1 m w (m.ir1 || m.is_timer_reached)) false)
+
   widths_cleared : (m : Lh5801) → Widths m → (i : Interrupt) → Widths (cleared m i)
   widths_cleared m w Ir0 = widths_ir0 m w false
   widths_cleared m w Ir1 = widths_ir1 m w false
@@ -326,6 +331,4 @@ module _ (inputs : Inputs) (byte : inputs.keyboard < 0x100) where
   pub step_widths : (m : Lh5801) → Widths m → (pages : Pages) → AllBytes pages → RanInWidth EndWidths (exec (step_of m inputs) pages)
   step_widths m w =
       width_exec EndWidths (step_of m inputs)
-      (step_ways (InWidth EndWidths) m inputs (widths_add_state m w 8)
-      (width_powered (moved m) (widths_reached (with_ir1 m true) (widths_ir1 m w true) false))
-      (width_powered m w))
+      (step_ways (InWidth EndWidths) m inputs (λ _. widths_add_state m w 8) (λ _. width_powered (reached_of m) (widths_moved m w) (accepted m)))

@@ -18,7 +18,7 @@ use Rattle.execution.specs.Instructions.{execute_of}
 use Rattle.execution.specs.States.{added_of}
 use Rattle.execution.specs.Step.{StepEnd, did, instruction, fetch_of, decoded_by, decoded_step_of, instruction_of, reached_of, halted_of, step_of}
 use Rattle.execution.specs.Conditions.{Halting, Due, AddressStop, Fetches}
-use Rattle.execution.proofs.Choices.{cond_false}
+use Rattle.execution.proofs.Ways.{step_is_off}
 use Rattle.execution.proofs.Tests.{interrupt_step, halting_step, fetching_step}
 
 module _ (inputs : Inputs) where
@@ -42,8 +42,7 @@ module _ (inputs : Inputs) where
   module _ (m : Lh5801) where
     -- with BF clear, where an interrupt is accepted and where it is halted, the step does not look at it either
     off_same : m.bf ≡ false → step_of m (without_stop inputs) ≡ step_of m inputs
-    unfolding step_of
-    off_same b = cond_false m.bf _ _ b ∙ sym (cond_false m.bf _ _ b)
+    off_same b = step_is_off m (without_stop inputs) b ∙ sym (step_is_off m inputs b)
 
     interrupt_same : m.bf ≡ true → (i : Interrupt) → accepted m ≡ Some i → step_of m (without_stop inputs) ≡ step_of m inputs
     interrupt_same b i e = interrupt_step m (without_stop inputs) b i e ∙ sym (interrupt_step m inputs b i e)

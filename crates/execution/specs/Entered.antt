@@ -12,11 +12,12 @@ use Rattle.execution.specs.declared.interrupts.Interrupt.TheVariants.{Ir0, Ir1, 
 use Rattle.execution.specs.Interrupts.{cleared, vector_address}
 use Rattle.execution.specs.Step.{StepEnd, did, interrupt}
 
--- IR0, IR1 or timer reached, IR2 and IE where each is accepted: IR0 goes before IR1, and IR1 before IR2; IE masks IR1 and IR2, and not IR0
+-- the requests and IE where each is accepted: IR0 goes before IR1, and IR1 before IR2; IE masks IR1 and IR2, and not IR0. `ir1` is set where IR1 or
+-- timer reached is
 abbrev pub Selects : Interrupt → Bool → Bool → Bool → Bool → Type 0
-Selects Ir0 ir0 first ir2 enabled = ir0 ≡ true
-Selects Ir1 ir0 first ir2 enabled = (ir0 ≡ false) × (first ≡ true) × (enabled ≡ true)
-Selects Ir2 ir0 first ir2 enabled = (ir0 ≡ false) × (first ≡ false) × (ir2 ≡ true) × (enabled ≡ true)
+Selects Ir0 ir0 ir1 ir2 enabled = ir0 ≡ true
+Selects Ir1 ir0 ir1 ir2 enabled = (ir0 ≡ false) × (ir1 ≡ true) × (enabled ≡ true)
+Selects Ir2 ir0 ir1 ir2 enabled = (ir0 ≡ false) × (ir1 ≡ false) × (ir2 ≡ true) × (enabled ≡ true)
 
 -- the records from which a step enters each
 pub record Enters (m : Lh5801) (i : Interrupt) : Type 0 where

@@ -9,7 +9,7 @@ ghost use Rattle.execution.specs.Interrupts.{accepted, vector_address, cleared};
 use arithmetic::record::Lh5801;
 use pages::Memory;
 
-/// The interrupts, by their requests.
+/// IR0, which IE does not mask, IR1, which timer reached asks for too, and IR2.
 #[derive(Clone, Copy)]
 pub enum Interrupt {
     Ir0,
@@ -48,17 +48,18 @@ impl Interrupt {
     }
 }
 
-/// The interrupt that is accepted, with BF set. The two that IE masks are asked for together: one by one, a step with a log costs a twelfth more.
+/// The interrupt that is accepted, with BF set.
 pub fn accepted(cpu: Lh5801) -> Option<Interrupt>
     ensures { result ≡ accepted cpu }
 {
     if cpu.ir0 {
         return Some(Interrupt::Ir0);
     }
-    let first = cpu.ir1 | cpu.is_timer_reached;
-    if !((first | cpu.ir2) & arithmetic::get_flag(cpu.t, arithmetic::IE)) {
+    // The two that IE masks are asked for by one test, which costs least where a log is lent (docs/TRIED.md).
+    let ir1 = cpu.ir1 | cpu.is_timer_reached;
+    if !((ir1 | cpu.ir2) & arithmetic::get_flag(cpu.t, arithmetic::IE)) {
         None
-    } else if first {
+    } else if ir1 {
         Some(Interrupt::Ir1)
     } else {
         Some(Interrupt::Ir2)

@@ -137,8 +137,8 @@ access_orders =
     ∷ seen (0xFD ∷ 0x3A ∷ []) start_record 0 15 (read_of 0x00 0xFD ∷ read_of 0x01 0x3A ∷ [])
     -- ITA: the keyboard byte is no access
     ∷ seen (0xFD ∷ 0xBA ∷ []) start_record 0 9 (read_of 0x00 0xFD ∷ read_of 0x01 0xBA ∷ [])
-    -- an interrupt: T, P low, P high, the vector's high byte, its low byte. T is written with IE still set. IR1, timer reached, both
-    -- lines, IR2; halted
+    -- an interrupt: T, P low, P high, the vector's high byte, its low byte. T is written with IE still set. IR1, timer reached, IR1
+    -- and IR2, IR2; halted
     ∷ seen [] (with_ir1 enabled true) 0 0
     (write_of 0x0C 0x02 ∷ write_of 0x0B 0x04 ∷ write_of 0x0A 0x03 ∷ read_of 0xFFFA 0xFF ∷ read_of 0xFFFB 0xFF ∷ [])
     ∷ seen [] (with_is_timer_reached enabled true) 0 0
@@ -151,7 +151,7 @@ access_orders =
     (write_of 0x0C 0x02 ∷ write_of 0x0B 0x04 ∷ write_of 0x0A 0x03 ∷ read_of 0xFFFA 0xFF ∷ read_of 0xFFFB 0xFF ∷ [])
     -- with IE clear it is not taken
     ∷ seen (0x00 ∷ []) (with_ir1 start_record true) 0 6 (read_of 0x00 0x00 ∷ [])
-    -- IR0: alone, before both other lines, halted; and with IE clear
+    -- IR0: alone, before the other two, halted; and with IE clear
     ∷ seen [] (with_ir0 enabled true) 0 0
     (write_of 0x0C 0x02 ∷ write_of 0x0B 0x04 ∷ write_of 0x0A 0x03 ∷ read_of 0xFFFC 0xFF ∷ read_of 0xFFFD 0xFF ∷ [])
     ∷ seen [] (with_ir0 (with_ir2 (with_ir1 enabled true) true) true) 0 0

@@ -95,7 +95,8 @@ address_steps =
     ∷ steps_to 0x0100 0 (at_p 0 0x0000 0x008) ldi_done ldi_accesses
     ∷ record (steps_to 0x0000 0 (at_p 0 0x0000 0x008) ldi_done ldi_accesses) { stop = None }
     ∷ steps_to 0x0002 0 (at_p 0 0x0003 0x008) (stopped (Unlisted (First 0x31))) (read_of 0x0003 0x31 ∷ [])
-    -- no instruction is due there: BF clear; an interrupt accepted, from timer reached, IR1, IR2 and IR0, IR0 with IE clear too; halted, where it stops with 7 or waits
+    -- no instruction is due there: BF clear; an interrupt accepted, from timer reached, IR1, IR2 and IR0, IR0 with IE clear too; halted, where it
+    -- stops with 7 or waits
     ∷ steps_to 0x0000 0 (at_p 0 0x0000 0x000) (did (after_states 8 0x000) 8 off) []
     ∷ entered_there 2 0x108 Ir1 0xFFFA 0x008
     ∷ entered_there 2 0x048 Ir1 0xFFFA 0x008

@@ -1,5 +1,5 @@
 -- Entries noted one after the other, and what a log then holds.
-use Rattle.std.proofs.Common.{◌≡◌, ℕ, suc, ◌+◌, ◌-◌, ◌%◌, ◌<◌, ◌≤◌, false, List, [], ◌∷◌, ◌++◌, map, length, take, drop, set, sym, refl, ap, ◌∙◌, add-zero, add-one, arith, length-append}
+use Rattle.std.proofs.Common.{◌≡◌, ℕ, suc, ◌+◌, ◌-◌, ◌%◌, ◌<◌, ◌≤◌, true, false, List, [], ◌∷◌, ◌++◌, map, length, take, drop, set, sym, refl, ap, ◌∙◌, add-zero, add-one, arith, length-append}
 use lib.ListN.{length-map}
 use lib.Seq.{sets, length-sets, sets-eq}
 use Rattle.pages.specs.Pages.{Pages, at}
@@ -7,10 +7,13 @@ use Rattle.pages.specs.Prog.{Access, read_of, exec}
 use Rattle.pages.specs.Stack.{up16}
 use Rattle.arithmetic.specs.declared.record.Lh5801.{Lh5801}
 use Rattle.execution.specs.declared.Inputs.{Inputs}
+use Rattle.std.specs.Prelude.{Option}
+use Rattle.execution.specs.declared.interrupts.Interrupt.{Interrupt}
+use Rattle.execution.specs.Interrupts.{accepted}
 use Rattle.execution.specs.Step.{step_of}
 use Rattle.execution.specs.Completed.{completed_accesses}
 use Rattle.execution.specs.Code.Due.{stops_before_of}
-use Rattle.execution.specs.Code.Shapes.{bytes_from, step_accesses}
+use Rattle.execution.specs.Code.Shapes.{bytes_from, powered_accesses, step_accesses}
 use Rattle.execution.proofs.AccessesAhead.{step_accesses_ahead, completed_few}
 use Rattle.bus.specs.declared.BusLog.{BusLog}
 use Rattle.bus.specs.Log.{entry_of, noted}
@@ -48,6 +51,10 @@ pub grows_appends : {l : List Access} {log : LentLog} → log.entry.now.used + l
 grows_appends h p =
     let done = p.counted h in
     record { entries = done.0; used = done.1; lent = p.lent }
+
+-- with BF set, the coming step's accesses by the interrupt that is accepted, or by none
+pub by_interrupt : (m : Lh5801) (pages : Pages) {a : Option Interrupt} → m.bf ≡ true → accepted m ≡ a → step_accesses m pages ≡ powered_accesses m pages a
+by_interrupt m pages on e = rw (on, e)
 
 -- the accesses l that the code takes the coming step's to be are at most seven, so there is room for the count
 pub step_appends : (m : Lh5801) (inputs : Inputs) (pages : Pages) {log : LentLog} {l : List Access} → stops_before_of m inputs ≡ false

@@ -1,6 +1,6 @@
 -- Accesses that are expected: for arms of every access order, for interrupts and for stops, the whole list in its order, with the step's number and
 -- states; and the accesses of calls, with what of them is read before it is written. proofs/AccessOrders.antt has the theorems over them.
-use Rattle.std.specs.Prelude.{ℕ, Bool, true, false, List, [], ◌∷◌, ◌++◌, map, length, drop, replicate, None}
+use Rattle.std.specs.Prelude.{ℕ, ◌+◌, Bool, true, false, List, [], ◌∷◌, ◌++◌, map, length, drop, replicate, None}
 use Rattle.arithmetic.specs.declared.record.Lh5801.{Lh5801}
 use Rattle.arithmetic.specs.Record.{with_t, with_x, with_u, with_s, with_p, with_is_halted, with_bf, with_ir0, with_ir1, with_ir2, with_is_timer_reached}
 use Rattle.arithmetic.specs.Flags.{CF, IE}
@@ -50,6 +50,11 @@ enabled = with_p (with_t start_record IE) 0x0304
 -- code and record; number, states and accesses
 abbrev pub seen : List ℕ → Lh5801 → ℕ → ℕ → List Access → Case
 seen code m n states l = record { cpu = m; pages = coded code; comes = record { number = n; states = states; accesses = l } }
+
+-- an interrupt from `enabled` with the requests set, and its vector: T with IE set, P low, P high, the vector's high byte, its low byte
+abbrev pub takes : Lh5801 → ℕ → Case
+takes m vector =
+    seen [] m 0 0 (write_of 0x0C 0x02 ∷ write_of 0x0B 0x04 ∷ write_of 0x0A 0x03 ∷ read_of vector 0xFF ∷ read_of (vector + 1) 0xFF ∷ [])
 
 unfoldable pub access_orders : List Case
 access_orders =
@@ -139,25 +144,17 @@ access_orders =
     ∷ seen (0xFD ∷ 0xBA ∷ []) start_record 0 9 (read_of 0x00 0xFD ∷ read_of 0x01 0xBA ∷ [])
     -- an interrupt: T, P low, P high, the vector's high byte, its low byte. T is written with IE still set. IR1, timer reached, IR1
     -- and IR2, IR2; halted
-    ∷ seen [] (with_ir1 enabled true) 0 0
-    (write_of 0x0C 0x02 ∷ write_of 0x0B 0x04 ∷ write_of 0x0A 0x03 ∷ read_of 0xFFFA 0xFF ∷ read_of 0xFFFB 0xFF ∷ [])
-    ∷ seen [] (with_is_timer_reached enabled true) 0 0
-    (write_of 0x0C 0x02 ∷ write_of 0x0B 0x04 ∷ write_of 0x0A 0x03 ∷ read_of 0xFFFA 0xFF ∷ read_of 0xFFFB 0xFF ∷ [])
-    ∷ seen [] (with_ir2 (with_ir1 enabled true) true) 0 0
-    (write_of 0x0C 0x02 ∷ write_of 0x0B 0x04 ∷ write_of 0x0A 0x03 ∷ read_of 0xFFFA 0xFF ∷ read_of 0xFFFB 0xFF ∷ [])
-    ∷ seen [] (with_ir2 enabled true) 0 0
-    (write_of 0x0C 0x02 ∷ write_of 0x0B 0x04 ∷ write_of 0x0A 0x03 ∷ read_of 0xFFF8 0xFF ∷ read_of 0xFFF9 0xFF ∷ [])
-    ∷ seen [] (with_is_halted (with_ir1 enabled true) true) 0 0
-    (write_of 0x0C 0x02 ∷ write_of 0x0B 0x04 ∷ write_of 0x0A 0x03 ∷ read_of 0xFFFA 0xFF ∷ read_of 0xFFFB 0xFF ∷ [])
+    ∷ takes (with_ir1 enabled true) 0xFFFA
+    ∷ takes (with_is_timer_reached enabled true) 0xFFFA
+    ∷ takes (with_ir2 (with_ir1 enabled true) true) 0xFFFA
+    ∷ takes (with_ir2 enabled true) 0xFFF8
+    ∷ takes (with_is_halted (with_ir1 enabled true) true) 0xFFFA
     -- with IE clear it is not taken
     ∷ seen (0x00 ∷ []) (with_ir1 start_record true) 0 6 (read_of 0x00 0x00 ∷ [])
     -- IR0: alone, before the other two, halted; and with IE clear
-    ∷ seen [] (with_ir0 enabled true) 0 0
-    (write_of 0x0C 0x02 ∷ write_of 0x0B 0x04 ∷ write_of 0x0A 0x03 ∷ read_of 0xFFFC 0xFF ∷ read_of 0xFFFD 0xFF ∷ [])
-    ∷ seen [] (with_ir0 (with_ir2 (with_ir1 enabled true) true) true) 0 0
-    (write_of 0x0C 0x02 ∷ write_of 0x0B 0x04 ∷ write_of 0x0A 0x03 ∷ read_of 0xFFFC 0xFF ∷ read_of 0xFFFD 0xFF ∷ [])
-    ∷ seen [] (with_is_halted (with_ir0 enabled true) true) 0 0
-    (write_of 0x0C 0x02 ∷ write_of 0x0B 0x04 ∷ write_of 0x0A 0x03 ∷ read_of 0xFFFC 0xFF ∷ read_of 0xFFFD 0xFF ∷ [])
+    ∷ takes (with_ir0 enabled true) 0xFFFC
+    ∷ takes (with_ir0 (with_ir2 (with_ir1 enabled true) true) true) 0xFFFC
+    ∷ takes (with_is_halted (with_ir0 enabled true) true) 0xFFFC
     ∷ seen [] (with_ir0 (with_ir2 (with_ir1 start_record true) true) true) 0 0
     (write_of 0x0C 0x00 ∷ write_of 0x0B 0x00 ∷ write_of 0x0A 0x00 ∷ read_of 0xFFFC 0xFF ∷ read_of 0xFFFD 0xFF ∷ [])
     -- 5: the reads of a step that stops, here of an unlisted first byte and of a byte past the page's end

@@ -1,11 +1,11 @@
 -- The read-only part of page 0 (document 02, F-4): which writes it drops, and that it changes nothing else.
-use Rattle.std.proofs.Common.{◌≡◌, ℕ, ◌<◌, ◌≤◌, ◌↔◌, Bool, true, false, cond, not, ◌&&◌, T, eqb, ltb, leb, List, [], ◌∷◌, length, sym, refl, ◌∙◌, subst, eqb-true, arith, ltb-true, lt-ltb, le-ltb, leb-true, le-leb}
+use Rattle.std.proofs.Common.{◌≡◌, ℕ, ◌-◌, ◌<◌, ◌≤◌, ◌↔◌, Bool, true, false, cond, not, ◌&&◌, T, eqb, ltb, leb, List, [], ◌∷◌, length, sym, refl, ◌∙◌, subst, eqb-true, arith, ltb-true, lt-ltb, le-ltb, leb-true, le-leb}
 use Rattle.std.proofs.lemmas.Bool.{and_parts, not-true}
 use lib.Dec.{eqb_refl}
 use Rattle.arithmetic.specs.declared.record.Lh5801.{Lh5801}
 use Rattle.arithmetic.specs.Record.{with_s}
 use Rattle.pages.specs.declared.ReadOnly.{ReadOnly}
-use Rattle.pages.specs.Pages.{Pages, no_read_only, at, inside, protected, stored, store}
+use Rattle.pages.specs.Pages.{Pages, pages, no_read_only, at, inside, protected, stored, store}
 use Rattle.pages.specs.Prog.{Access, read_of, write_of, ◌>>=◌, write, after, exec}
 use Rattle.pages.specs.Stack.{down16, push_of}
 use Rattle.pages.specs.Written.{Write, latest, Written, is_read, NotReadBack}
@@ -41,6 +41,19 @@ pub stored_iff : (m : Pages) (a : ℕ) → stored m a ≡ true ↔ ((inside m a 
 unfolding stored
 stored_iff m a =
     (λ h. let x = and_parts (inside m a) (not (protected m.read_only a)) h in (x.0, not-true (protected m.read_only a) x.1), λ h. rw (h.0, h.1) refl)
+
+-- by the page that it goes to: on page 0 where the page has the byte and it is not protected, on page 1 where the page has it
+pub stored_page0 : (l0 l1 : List ℕ) (r : ReadOnly) (a : ℕ) → a < 0x10000 → stored (pages l0 l1 r) a ≡ ltb a (length l0) && not (protected r a)
+unfolding stored inside
+stored_page0 l0 l1 r a h = rw (lt-ltb a 0x10000 h)
+
+pub stored_page1 : (l0 l1 : List ℕ) (r : ReadOnly) (a : ℕ) → 0x10000 ≤ a → stored (pages l0 l1 r) a ≡ ltb (a - 0x10000) (length l1)
+unfolding stored inside
+stored_page1 l0 l1 r a h = rw (le-ltb a 0x10000 h, page1_not_protected r a h) (and_true (ltb (a - 0x10000) (length l1)))
+  where
+    and_true : (t : Bool) → t && true ≡ t
+    and_true true = refl
+    and_true false = refl
 
 -- a protected byte is, after any writes, what it was
 pub written_protected : {m e : Pages} {ws : List Write} → Written m ws e → (a : ℕ) → protected m.read_only a ≡ true → at e a ≡ at m a

@@ -425,7 +425,7 @@ fn both(a: Tally, b: Tally) -> Tally
     }
 }
 
-// Replays the nine parts and prints the counts. A file that cannot be opened or read ends the program with its error, and no count is printed.
+// Replays the ten parts and prints the counts. A file that cannot be opened or read ends the program with its error, and no count is printed.
 fn main(rt: HostRuntime) -> io::Result<()> {
     let mut tally = Tally::default();
     for path in PARTS {

@@ -7,8 +7,7 @@ use Rattle.std.specs.Borrow.{MutBor}
 use Rattle.bus.specs.declared.BusLog.{BusLog}
 use Rattle.bus.specs.Code.Notes.{Appends}
 use Rattle.bus.proofs.Notes.{noted_append, noted_length}
-use Rattle.run.specs.BusLog.{Log, log_of, held_log, free_of, free_in, free_after, with_entries}
-use Rattle.run.specs.CutLog.{left_after}
+use Rattle.run.specs.BusLog.{Log, log_of, held_log, free_of, free_in, free_after, with_entries, lent_if, appended_if}
 use Rattle.run.specs.Answers.{free_if, Logged}
 
 -- no access, and accesses after accesses
@@ -41,15 +40,15 @@ module _ (log : Log) where
   pub appended_free : (l : List Access) → Some (free_of (with_entries log l)) ≡ free_after (Some (free_of log)) l
   appended_free l = ap Some (omega (arith, appended_length l, log_used l))
 
--- the same of a log that may be lent
-pub free_left : (log : Option Log) (l : List Access) → free_in (left_after log l) ≡ free_after (free_in log) l
+-- the same of a list and a count that are lent as a log or not
+pub free_left : (lent : Bool) (log : Log) (l : List Access) → free_in (lent_if lent (appended_if lent log l)) ≡ free_after (free_in (lent_if lent log)) l
 unfolding free_in
-free_left None l = refl
-free_left (Some log) l = appended_free log l
+free_left true log l = appended_free log l
+free_left false log l = refl
 
-pub left_then : (log : Option Log) (k l : List Access) → left_after (left_after log k) l ≡ left_after log (k ++ l)
-left_then None k l = refl
-left_then (Some log) k l = ap Some (appended_then log k l)
+pub left_then : (lent : Bool) (log : Log) (k l : List Access) → appended_if lent (appended_if lent log k) l ≡ appended_if lent log (k ++ l)
+left_then true log k l = appended_then log k l
+left_then false log k l = refl
 
 -- a log that is not lent stays as it is
 pub logged_unlent : {l : List Access} {log : BusLog} → Logged false l log log

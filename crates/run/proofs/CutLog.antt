@@ -13,7 +13,7 @@ use Rattle.run.specs.Acceptance.{Accepted}
 use Rattle.run.specs.BusLog.{Log, free_in, free_after, with_entries, lent_if, appended_if, Full}
 use Rattle.run.specs.Run.{CallResult, no_step, completed, join, one_step, run_of, call_of, settings}
 use Rattle.run.specs.Demand.{sum, AtLeastOne}
-use Rattle.run.specs.CutLog.{left_after, log_after, log_after_all, CutLog}
+use Rattle.run.specs.CutLog.{log_after, log_after_all, CutLog}
 use Rattle.run.proofs.BusLog.{appended_none, log_used, free_left, left_then}
 use Rattle.run.proofs.Steps.{run_each, run_split}
 use Rattle.run.proofs.Acceptance.{limit_some, call_run, call_each}
@@ -93,25 +93,25 @@ call_unlogged s lent log m p off = rw off refl
 -- ---- a run cut into calls
 
 -- the calls of a list leave what one run with the sum of their limits leaves
-cut : (l : ℕ) (ls : List ℕ) (inputs : Inputs) (log : Option Log) (m : Lh5801) (p : Pages)
+cut : (l : ℕ) (ls : List ℕ) (inputs : Inputs) (lent : Bool) (log : Log) (m : Lh5801) (p : Pages)
     → Accepted (settings inputs (l + sum ls)) m p → 1 ≤ l → AtLeastOne ls
-    → log_after_all (l ∷ ls) inputs log m p ≡ left_after log (run_of (l + sum ls) inputs (free_in log) m p).bus
+    → log_after_all (l ∷ ls) inputs lent log m p ≡ appended_if lent log (run_of (l + sum ls) inputs (free_in (lent_if lent log)) m p).bus
 unfolding sum AtLeastOne log_after_all log_after join
-cut l [] inputs log m p h i is = rw (call_run (settings inputs l) (free_in log) m p (first_accepted l 0 inputs h i), add-zero) refl
-cut l (k ∷ ks) inputs log m p h i is =
-    let free : Option ℕ = free_in log in
+cut l [] inputs lent log m p h i is = rw (call_run (settings inputs l) (free_in (lent_if lent log)) m p (first_accepted l 0 inputs h i), add-zero) refl
+cut l (k ∷ ks) inputs lent log m p h i is =
+    let free : Option ℕ = free_in (lent_if lent log) in
     let o : CallResult = run_of l inputs free m p in
     let rest : CallResult = run_of (k + sum ks) inputs (free_after free o.bus) o.answer.cpu o.pages in
-    let y : Option Log = left_after log o.bus in
+    let y : Log = appended_if lent log o.bus in
     rw (call_run (settings inputs l) free m p (first_accepted l (k + sum ks) inputs h i))
-    (cut k ks inputs y o.answer.cpu o.pages (rest_accepted l (k + sum ks) inputs free h (omega (arith, is.0))) is.0 is.1
-    ∙ ap (λ (f : Option ℕ). left_after y (run_of (k + sum ks) inputs f o.answer.cpu o.pages).bus) (free_left log o.bus)
-    ∙ left_then log o.bus rest.bus
-    ∙ ap (λ (r : CallResult). left_after log r.bus) (run_split l (k + sum ks) inputs free m p (omega (arith, is.0))))
+    (cut k ks inputs lent y o.answer.cpu o.pages (rest_accepted l (k + sum ks) inputs free h (omega (arith, is.0))) is.0 is.1
+    ∙ ap (λ (f : Option ℕ). appended_if lent y (run_of (k + sum ks) inputs f o.answer.cpu o.pages).bus) (free_left lent log o.bus)
+    ∙ left_then lent log o.bus rest.bus
+    ∙ ap (λ (r : CallResult). appended_if lent log r.bus) (run_split l (k + sum ks) inputs free m p (omega (arith, is.0))))
 
 pub cut_log : CutLog
 unfolding CutLog sum AtLeastOne log_after
-cut_log s log m p h [] is e = absurd (omega (arith, limit_some h))
-cut_log s log m p h (k ∷ ks) is e =
-    cut k ks s.inputs log m p (rw e h) is.0 is.1
-    ∙ rw (e, call_run s (free_in log) m p h) refl
+cut_log s lent log m p h [] is e = absurd (omega (arith, limit_some h))
+cut_log s lent log m p h (k ∷ ks) is e =
+    cut k ks s.inputs lent log m p (rw e h) is.0 is.1
+    ∙ rw (e, call_run s (free_in (lent_if lent log)) m p h) refl

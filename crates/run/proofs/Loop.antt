@@ -2,17 +2,19 @@
 use Rattle.std.proofs.Common.{◌≡◌, ℕ, ◌+◌, ◌<◌, ◌≤◌, Bool, true, false, ◌&&◌, List, [], ◌++◌, inl, inr, sym, refl, ap, ◌∙◌, subst, true≢false, arith}
 use Rattle.std.specs.Prelude.{Option, None, Some, Result, Ok, Err}
 use Rattle.arithmetic.specs.declared.record.Lh5801.{Lh5801}
+use Rattle.arithmetic.specs.Record.{with_ir1, with_is_timer_reached}
 use Rattle.execution.specs.declared.Inputs.{Inputs}
 use Rattle.pages.specs.declared.Memory.{Memory}
 use Rattle.pages.specs.Pages.{Pages}
 use Rattle.pages.specs.Prog.{Access, mapped, exec}
 use Rattle.pages.specs.Contract.{held, SameLent, Does}
 use Rattle.pages.proofs.Does.{mapped_value, mapped_pages, lent_same, lent_then}
+use Rattle.execution.specs.declared.Executed.{Executed}
 use Rattle.execution.specs.declared.Stop.{Stop}
 use Rattle.execution.specs.Step.{Kind, StepEnd, did, stopped, reached_of, step_of}
 use Rattle.execution.specs.Code.Outcomes.{outcome_of}
 use Rattle.execution.specs.Inputs.{equals_address, stops_at}
-use Rattle.execution.specs.Code.Due.{due_of, Ready}
+use Rattle.execution.specs.Code.Due.{due_of, Ready, executed_of}
 use Rattle.execution.proofs.TimerReached.{reached_p, reached_ready, reached_back}
 use Rattle.execution.proofs.Order.{step_reached}
 use Rattle.execution.proofs.StopsClean.{stop_no_write}
@@ -46,6 +48,13 @@ pub record Executing (s : Settings) (done : ℕ) (first : Lh5801) (l : Memory) (
 abbrev pub at_start_lem : (inputs : Inputs) (limit : ℕ) (free : Option ℕ) (m : Lh5801) (p : Pages) → Going inputs limit free m p 0 m p
 at_start_lem inputs limit free m p =
     record { within = omega arith; states = 0; bus = []; reached = start }
+
+-- what an instruction was found to have come to is what its step does
+pub executed_by : (m : Lh5801) (inputs : Inputs) {p q : Memory} {r o : Result Executed Stop}
+    → Does (mapped executed_of (step_of m inputs)) p r q
+    → r ≡ o
+    → Does (mapped executed_of (step_of m inputs)) p o q
+executed_by m inputs {p} {q} d e = subst (λ (x : Result Executed Stop). Does (mapped executed_of (step_of m inputs)) p x q) e d
 
 -- what a step of the code tells of the definition's, on the pages
 record Outcome (inputs : Inputs) (m : Lh5801) (p : Pages) (r : Result Lh5801 Stop) (q : Pages) : Type 0 where
@@ -115,6 +124,11 @@ same_step inputs m due moved = ap (λ (k : Lh5801). step_of k inputs) moved ∙ 
 moved_back : (m : Lh5801) → unmoved_of (reached_of m) m ≡ m
 unfolding unmoved_of
 moved_back m = reached_back m
+
+-- where nothing has moved, nothing changes
+pub unmoved_same : (m : Lh5801) → unmoved_of m m ≡ m
+unfolding unmoved_of with_ir1 with_is_timer_reached
+unmoved_same m = refl
 
 -- P is not the stop address where a stretch begins, if an instruction is due there, and after a step of it, if there is another
 not_both : (a b : Bool) → a && b ≡ false → b ≡ true → a ≡ false

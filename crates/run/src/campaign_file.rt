@@ -1,5 +1,6 @@
 //! Document 01's campaign file: the record, the keyboard byte and the limit, and the two pages of one call, as bytes.
-//! A `Cursor` goes over the bytes; each field is read from its place on, and the place moves to the field's end, or the field is turned down.
+//! A `Cursor` goes over the bytes; each field is read from its place on, and the place moves to the field's end, or the field is turned down and the
+//! place stays.
 ghost use Rattle.std.specs.Prelude.{◌≡◌, length};
 ghost use Rattle.run.specs.RecordNumbers.{AllWithin};
 ghost use Rattle.run.specs.CampaignFile.{refusal_number, refusal_offset, number_of, greatest_values, numbers_of, page_of, parsed_of, campaign_of};
@@ -125,10 +126,12 @@ impl Cursor<'_> {
     pub fn numbers(&mut self) -> Result<[u64; 14], Refusal>
         ensures { ReadsField (numbers_of greatest_values) self result }
     {
+        let mut cursor = *self;
         let mut values = GREATEST;
         for value in values.iter_mut() {
-            *value = self.number(*value)?;
+            *value = cursor.number(*value)?;
         }
+        *self = cursor;
         Ok(values)
     }
 
@@ -137,8 +140,9 @@ impl Cursor<'_> {
     pub fn page(&mut self) -> Result<PagePlace, Refusal>
         ensures { ReadsField page_of self result }
     {
-        let len = self.number(16384)? as usize;
-        let at = self.at;
+        let mut cursor = *self;
+        let len = cursor.number(16384)? as usize;
+        let at = cursor.at;
         if self.bytes.len() < at + len {
             return Err(Refusal::Ends(at));
         }

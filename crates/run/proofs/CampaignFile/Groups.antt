@@ -64,7 +64,7 @@ module _ {before now : Cursor} {rest : List ℕ} {count weight value : ℕ} (p :
       p.weight_is ∙ ap (λ (k : ℕ). 128 ^ k) c
 
   turned_down : (greatest : ℕ) {why : Refusal} → number_of greatest before.bytes.now before.at ≡ refused why → ReadOn (number_of greatest) before now (Err why)
-  turned_down greatest e = record { field = e; file = ap (λ (c : Cursor). c.bytes) p.stays }
+  turned_down greatest e = record { field = e; file = ap (λ (c : Cursor). c.bytes) p.stays; stays = p.stays }
 
   -- where there is no byte
   pub number_ends : (greatest : ℕ) → length rest ≤ count → ReadOn (number_of greatest) before now (Err (Ends before.at))
@@ -91,6 +91,7 @@ module _ {before now : Cursor} {rest : List ℕ} {count weight value : ℕ} (p :
     passed_read greatest g s f = record {
       field = last_is greatest g ∙ rw (s, le-leb (value + weight * (byte % 128)) greatest f);
       file = ap (λ (c : Cursor). c.bytes) p.stays;
+      stays = tt;
     }
 
     pub passed_unfit : (greatest : ℕ) → byte < 128

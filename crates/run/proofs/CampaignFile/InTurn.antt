@@ -41,11 +41,12 @@ module _ {greatests : List ℕ} {before : Cursor} {values : List ℕ} {i : ℕ} 
   }
 
   pub read_stops : {stop : Refusal} {next : Cursor} → i < length values → ReadOn (number_of (get_or values i 0)) now next (Err stop)
-      → ReadOn (numbers_of greatests) before next (Err stop)
+      → ReadOn (numbers_of greatests) before before (Err stop)
   unfolding numbers_of
   read_stops l r = record {
     field = p.so ∙ rw (drop-cons values i 0 l, rw p.file at r.field);
-    file = r.file ∙ p.file;
+    file = refl;
+    stays = refl;
   }
 
   pub read_all : length values ≤ i → ReadOn (numbers_of greatests) before now (Ok values)
@@ -53,6 +54,7 @@ module _ {greatests : List ℕ} {before : Cursor} {values : List ℕ} {i : ℕ} 
   read_all l = record {
     field = p.so ∙ rw (drop_of_length-le values l, take_all i values l, append-nil values);
     file = p.file;
+    stays = tt;
   }
 
 -- ---- a file that was read

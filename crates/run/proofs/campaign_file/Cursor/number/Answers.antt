@@ -7,7 +7,7 @@ pub returns-in_default : goal.returns-in_default
 unfolding number_of
 returns-in_default c =
     let past : length c.args.self.now.bytes.now < c.args.self.now.at = search (rules, c.in_default.ensures.lookup) in
-    record { field = rw (drop_of_length-le c.args.self.now.bytes.now {i = c.args.self.now.at} (omega arith)); file = search rules }
+    record { field = rw (drop_of_length-le c.args.self.now.bytes.now {i = c.args.self.now.at} (omega arith)); file = search rules; stays = search rules }
 
 pub returns-then-count-group : goal.returns-then-count-group
 returns-then-count-group c = tenth_unfit c.loop-count.invariant c.loop-count-test.true c.from-group.ensures _ c.if-count-group.true (omega arith)

@@ -1,5 +1,5 @@
 -- Which bytes are listed, the bounds of the states, and the places that entries use: each a test computed over a whole page.
-use Rattle.std.proofs.Common.{◌≡◌, ℕ, ◌+◌, ◌/◌, ◌%◌, ◌≤◌, Bool, true, false, not, T, ltb, leb, List, [], ◌∷◌, length, get_or, sym, refl, subst, arith, leb→le, ltb-false, ltb-true}
+use Rattle.std.proofs.Common.{◌≡◌, ℕ, ◌+◌, ◌/◌, ◌%◌, ◌≤◌, Bool, true, false, not, T, eqb, ltb, leb, List, [], ◌∷◌, length, get_or, sym, refl, subst, arith, leb→le, ltb-false, ltb-true}
 use lib.ListN.{get_or-eq_default}
 use Rattle.arithmetic.proofs.Compute.{both, both_left, both_right, every, test_at}
 use Rattle.execution.specs.declared.instructions.Instruction.{Instruction}
@@ -119,3 +119,24 @@ pub listed_vectors : (opcode : Opcode) {l : Listed} → decoded_by opcode ≡ So
 unfolding decoded decoded_fd
 listed_vectors (First byte) e = entry_at entry_vector_fits decoded tt tt (past_rows rows refl) byte e
 listed_vectors (AfterFd byte) e = entry_at entry_vector_fits decoded_fd tt tt (past_rows rows_fd refl) byte e
+
+-- and it is the opcode's own byte
+abbrev pub names_itself : ℕ → Instruction → Bool
+names_itself byte (Vector nr) = eqb nr byte
+names_itself byte i = true
+
+abbrev pub entry_names_itself : ℕ → Option Listed → Bool
+entry_names_itself byte (Some l) = names_itself byte l.instruction
+entry_names_itself byte None = true
+
+named_at : (page : ℕ → Option Listed) → T (every (λ (b : ℕ). entry_names_itself b (page b)) 0 256) → ((b : ℕ) → 256 ≤ b → page b ≡ None)
+    → (byte : ℕ) → T (entry_names_itself byte (page byte))
+named_at page all past byte = go (ltb byte 256) refl
+  where
+    go : (b : Bool) → ltb byte 256 ≡ b → T (entry_names_itself byte (page byte))
+    go true h = test_at (λ (b : ℕ). entry_names_itself b (page b)) 256 all byte (ltb-true byte 256 h)
+    go false h = rw (past byte (ltb-false byte 256 h)) tt
+
+pub vectors_named : (byte : ℕ) → T (entry_names_itself byte (decoded byte)) × T (entry_names_itself byte (decoded_fd byte))
+unfolding decoded decoded_fd
+vectors_named byte = (named_at decoded tt (past_rows rows refl) byte, named_at decoded_fd tt (past_rows rows_fd refl) byte)

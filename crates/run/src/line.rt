@@ -1,31 +1,22 @@
 //! The line that the program prints, as bytes that are written one after another.
 //! The longest line has 138 bytes: 3 + 10 + 20 digits for number, steps and states, 2 + 2 + 5 * 4 + 3 + 3 hex digits, 3 * 20 digits for the
 //! counters, and a byte after each of the 15 fields. With every decimal field taken at 20 digits it is 165, which a buffer of 200 holds.
-ghost use Rattle.std.specs.Prelude.{◌≡◌, ◌+◌, ◌<◌, ◌≤◌, List, ℕ, [], ◌∷◌, ◌++◌, length, take};
+ghost use Rattle.std.specs.Prelude.{◌≡◌, ◌+◌, ◌<◌, ◌≤◌, [], ◌∷◌, ◌++◌, length};
 ghost use Rattle.run.specs.Line.{Printed, space, hex_digit, decimal_of, hex_of, joined, count_fields, register_fields, counter_fields, line_of, refusal_line_of};
-ghost use Rattle.run.specs.Code.LineParts.{spaced};
+ghost use Rattle.run.specs.Code.LineParts.{spaced, written, KeepsRest};
 
 use crate::record_numbers;
 use arithmetic::record::Lh5801;
-use std::marker::Model;
 
 const SPACE: u8 = b' ';
 
 const NEWLINE: u8 = b'\n';
 
-// The bytes of a line, as far as it is written.
+// A lent buffer that a line is written into, and how many bytes are written.
 #[derive(Drop)]
-struct LineText {
-    bytes: [u8; 200],
+struct LineText<'a> {
+    buffer: &'a mut [u8],
     len: usize,
-}
-
-impl Model for LineText {
-    ghost Value = { List ℕ };
-
-    ghost view = { λ l. take l.len l.bytes };
-
-    ghost invariant = { λ l. l.len ≤ 200 };
 }
 
 // A hex digit, in capitals.
@@ -37,31 +28,25 @@ fn hex_digit(value: u16) -> u8
 }
 
 // Each method asks for room for what it writes: the buffer is fixed, since the project has no heap.
-impl LineText {
-    fn new() -> LineText
-        ensures { result ≡ [] }
-    {
-        LineText {
-            bytes: [0; 200],
-            len: 0,
-        }
-    }
-
+impl LineText<'_> {
+    #[tactic(auto, unfolding(crate::specs::Code::LineParts::written))]
     fn push(&mut self, byte: u8)
-        requires { length self.old < 200 }
-        ensures bytes { self.new ≡ self.old ++ (byte ∷ []) }
-        ensures len { length self.new ≡ length self.old + 1 }
+        requires { self.old.len < length self.old.buffer.now }
+        ensures bytes { written self.new ≡ written self.old ++ (byte ∷ []) }
+        ensures len { self.new.len ≡ self.old.len + 1 }
+        ensures rest { KeepsRest self }
     {
-        self.bytes[self.len] = byte;
+        self.buffer[self.len] = byte;
         self.len += 1;
     }
 
     // The digits of a number, without leading zeros; by recursion, since `write!` promises only what an Ok means.
     #[tactic(auto, using(crate::proofs::PrintedLine::decimal_one, crate::proofs::PrintedLine::decimal_more, crate::proofs::PrintedLine::length_one, crate::proofs::PrintedLine::length_more, std::proofs::Common::append_assoc))]
     fn put_decimal(&mut self, value: u64)
-        requires { length self.old + length (decimal_of value) ≤ 200 }
-        ensures bytes { self.new ≡ self.old ++ decimal_of value }
-        ensures len { length self.new ≡ length self.old + length (decimal_of value) }
+        requires { self.old.len + length (decimal_of value) ≤ length self.old.buffer.now }
+        ensures bytes { written self.new ≡ written self.old ++ decimal_of value }
+        ensures len { self.new.len ≡ self.old.len + length (decimal_of value) }
+        ensures rest { KeepsRest self }
     {
         if value < 10 {
             self.push(b'0' + value as u8);
@@ -72,11 +57,12 @@ impl LineText {
     }
 
     // So many hex digits of a number, the lowest ones.
-    #[tactic(auto, using(crate::proofs::PrintedLine::hex_more), unfolding(crate::specs::Line::hex_of))]
+    #[tactic(auto, using(crate::proofs::PrintedLine::hex_more, std::proofs::Common::append_assoc), unfolding(crate::specs::Line::hex_of))]
     fn put_hex(&mut self, value: u16, digits: u8)
-        requires { length self.old + digits ≤ 200 }
-        ensures bytes { self.new ≡ self.old ++ hex_of digits value }
-        ensures len { length self.new ≡ length self.old + digits }
+        requires { self.old.len + digits ≤ length self.old.buffer.now }
+        ensures bytes { written self.new ≡ written self.old ++ hex_of digits value }
+        ensures len { self.new.len ≡ self.old.len + digits }
+        ensures rest { KeepsRest self }
     {
         if 0 < digits {
             self.put_hex(value / 16, digits - 1);
@@ -87,9 +73,10 @@ impl LineText {
     // A decimal field, and the byte after it.
     #[tactic(auto, using(crate::proofs::PrintedLine::length_decimal))]
     fn decimal(&mut self, value: u64, after: u8)
-        requires { length self.old + 21 ≤ 200 }
-        ensures bytes { self.new ≡ self.old ++ decimal_of value ++ (after ∷ []) }
-        ensures len { length self.new ≤ length self.old + 21 }
+        requires { self.old.len + 21 ≤ length self.old.buffer.now }
+        ensures bytes { written self.new ≡ written self.old ++ decimal_of value ++ (after ∷ []) }
+        ensures len { self.new.len ≤ self.old.len + 21 }
+        ensures rest { KeepsRest self }
     {
         self.put_decimal(value);
         self.push(after);
@@ -97,9 +84,10 @@ impl LineText {
 
     // A field of so many hex digits, and the space after it.
     fn hex(&mut self, value: u16, digits: u8)
-        requires { length self.old + digits + 1 ≤ 200 }
-        ensures bytes { self.new ≡ self.old ++ hex_of digits value ++ (space ∷ []) }
-        ensures len { length self.new ≡ length self.old + digits + 1 }
+        requires { self.old.len + digits + 1 ≤ length self.old.buffer.now }
+        ensures bytes { written self.new ≡ written self.old ++ hex_of digits value ++ (space ∷ []) }
+        ensures len { self.new.len ≡ self.old.len + digits + 1 }
+        ensures rest { KeepsRest self }
     {
         self.put_hex(value, digits);
         self.push(SPACE);
@@ -107,9 +95,10 @@ impl LineText {
 
     // Number, steps and states.
     fn counts(&mut self, number: u8, steps: u32, states: u64)
-        requires { length self.old + 63 ≤ 200 }
-        ensures bytes { self.new ≡ self.old ++ spaced (count_fields number steps states) }
-        ensures len { length self.new ≤ length self.old + 63 }
+        requires { self.old.len + 63 ≤ length self.old.buffer.now }
+        ensures bytes { written self.new ≡ written self.old ++ spaced (count_fields number steps states) }
+        ensures len { self.new.len ≤ self.old.len + 63 }
+        ensures rest { KeepsRest self }
     {
         self.decimal(u64::from(number), SPACE);
         self.decimal(u64::from(steps), SPACE);
@@ -118,9 +107,10 @@ impl LineText {
 
     // A, T, X, Y, U, S, P, TM and flags.
     fn registers(&mut self, cpu: Lh5801)
-        requires { length self.old + 39 ≤ 200 }
-        ensures bytes { self.new ≡ self.old ++ spaced (register_fields cpu) }
-        ensures len { length self.new ≡ length self.old + 39 }
+        requires { self.old.len + 39 ≤ length self.old.buffer.now }
+        ensures bytes { written self.new ≡ written self.old ++ spaced (register_fields cpu) }
+        ensures len { self.new.len ≡ self.old.len + 39 }
+        ensures rest { KeepsRest self }
     {
         self.hex(u16::from(cpu.a), 2);
         self.hex(u16::from(cpu.t), 2);
@@ -135,42 +125,36 @@ impl LineText {
 
     // Timer states, previous states and ticks, which end the line.
     fn counters(&mut self, cpu: Lh5801)
-        requires { length self.old + 63 ≤ 200 }
-        ensures { self.new ≡ self.old ++ joined (counter_fields cpu) }
+        requires { self.old.len + 63 ≤ length self.old.buffer.now }
+        ensures bytes { written self.new ≡ written self.old ++ joined (counter_fields cpu) }
+        ensures len { self.new.len ≤ self.old.len + 63 }
+        ensures rest { KeepsRest self }
     {
         self.decimal(cpu.timer_state, SPACE);
         self.decimal(cpu.step_previous_state, SPACE);
         self.decimal(cpu.ticks, NEWLINE);
     }
-
-    // The line's bytes to the start of a buffer; how many they are is returned.
-    fn store(&self, buffer: &mut [u8; 200]) -> usize
-        ensures { Printed buffer.old self.now buffer.new result }
-    {
-        buffer[..self.len].copy_from_slice(&self.bytes[..self.len]);
-        self.len
-    }
 }
 
 /// The line of a call: its bytes in the buffer, and how many they are.
-#[tactic(auto, using(std::proofs::Common::append_assoc), unfolding(crate::specs::Line::line_of))]
+#[tactic(auto, using(std::proofs::Common::append_assoc), unfolding(crate::specs::Line::line_of, crate::specs::Code::LineParts::written))]
 pub fn line(buffer: &mut [u8; 200], number: u8, steps: u32, states: u64, cpu: Lh5801) -> usize
     ensures { Printed buffer.old (line_of number steps states cpu) buffer.new result }
 {
-    let mut text = LineText::new();
+    let mut text = LineText { buffer, len: 0 };
     text.counts(number, steps, states);
     text.registers(cpu);
     text.counters(cpu);
-    text.store(buffer)
+    text.len
 }
 
 /// The line of a campaign file that is turned down: likewise.
-#[tactic(auto, using(std::proofs::Common::append_assoc), unfolding(crate::specs::Line::refusal_line_of))]
+#[tactic(auto, using(std::proofs::Common::append_assoc), unfolding(crate::specs::Line::refusal_line_of, crate::specs::Code::LineParts::written))]
 pub fn refusal_line(buffer: &mut [u8; 200], number: u8, offset: u64) -> usize
     ensures { Printed buffer.old (refusal_line_of number offset) buffer.new result }
 {
-    let mut text = LineText::new();
+    let mut text = LineText { buffer, len: 0 };
     text.decimal(u64::from(number), SPACE);
     text.decimal(offset, NEWLINE);
-    text.store(buffer)
+    text.len
 }

@@ -64,15 +64,15 @@ abbrev states_fit : Option Listed → Bool
 states_fit (Some l) = both (leb 4 l.states) (leb (l.states + added_when_taken l.instruction) 23)
 states_fit None = true
 
--- a test that each byte of a page passes, and an unlisted one: what it says of an entry
-entry_at : (test : Option Listed → Bool) (page : ℕ → Option Listed) → T (every (λ (b : ℕ). test (page b)) 0 256) → T (test None)
+-- a test that each byte of a page passes with its entry, and any byte with none: what it says of an entry
+entry_at : (test : ℕ → Option Listed → Bool) (page : ℕ → Option Listed) → T (every (λ (b : ℕ). test b (page b)) 0 256) → ((b : ℕ) → T (test b None))
     → ((b : ℕ) → 256 ≤ b → page b ≡ None)
-    → (byte : ℕ) {d : Option Listed} → page byte ≡ d → T (test d)
-entry_at test page all none past byte e = subst (λ (d : Option Listed). T (test d)) e (go (ltb byte 256) refl)
+    → (byte : ℕ) {d : Option Listed} → page byte ≡ d → T (test byte d)
+entry_at test page all none past byte e = subst (λ (d : Option Listed). T (test byte d)) e (go (ltb byte 256) refl)
   where
-    go : (b : Bool) → ltb byte 256 ≡ b → T (test (page byte))
-    go true h = test_at (λ (b : ℕ). test (page b)) 256 all byte (ltb-true byte 256 h)
-    go false h = subst (λ (d : Option Listed). T (test d)) (sym (past byte (ltb-false byte 256 h))) none
+    go : (b : Bool) → ltb byte 256 ≡ b → T (test byte (page byte))
+    go true h = test_at (λ (b : ℕ). test b (page b)) 256 all byte (ltb-true byte 256 h)
+    go false h = subst (λ (d : Option Listed). T (test byte d)) (sym (past byte (ltb-false byte 256 h))) (none byte)
 
 states_fit_lem : (i : Instruction) (n : ℕ) → T (states_fit (listed i n)) → (4 ≤ n) × (n + added_when_taken i ≤ 23)
 states_fit_lem i n fit = (
@@ -87,11 +87,11 @@ past_rows table l b h = rw (get_or-eq_default table [] {n = b / 16} (omega (arit
 -- document 01: each executed instruction adds 4 to 23 states
 pub listed_states : (byte : ℕ) {i : Instruction} {n : ℕ} → decoded byte ≡ listed i n → (4 ≤ n) × (n + added_when_taken i ≤ 23)
 unfolding decoded
-listed_states byte {i} {n} e = states_fit_lem i n (entry_at states_fit decoded tt tt (past_rows rows refl) byte e)
+listed_states byte {i} {n} e = states_fit_lem i n (entry_at (λ _. states_fit) decoded tt (λ _. tt) (past_rows rows refl) byte e)
 
 pub listed_states_fd : (byte : ℕ) {i : Instruction} {n : ℕ} → decoded_fd byte ≡ listed i n → (4 ≤ n) × (n + added_when_taken i ≤ 23)
 unfolding decoded_fd
-listed_states_fd byte {i} {n} e = states_fit_lem i n (entry_at states_fit decoded_fd tt tt (past_rows rows_fd refl) byte e)
+listed_states_fd byte {i} {n} e = states_fit_lem i n (entry_at (λ _. states_fit) decoded_fd tt (λ _. tt) (past_rows rows_fd refl) byte e)
 
 abbrev entry_fits : Option Listed → Bool
 entry_fits (Some l) = place_fits l.instruction
@@ -100,11 +100,11 @@ entry_fits None = true
 -- no entry of either table uses a place that its instruction has no meaning for
 pub listed_places : (byte : ℕ) {i : Instruction} {n : ℕ} → decoded byte ≡ listed i n → T (place_fits i)
 unfolding decoded
-listed_places byte e = entry_at entry_fits decoded tt tt (past_rows rows refl) byte e
+listed_places byte e = entry_at (λ _. entry_fits) decoded tt (λ _. tt) (past_rows rows refl) byte e
 
 pub listed_places_fd : (byte : ℕ) {i : Instruction} {n : ℕ} → decoded_fd byte ≡ listed i n → T (place_fits i)
 unfolding decoded_fd
-listed_places_fd byte e = entry_at entry_fits decoded_fd tt tt (past_rows rows_fd refl) byte e
+listed_places_fd byte e = entry_at (λ _. entry_fits) decoded_fd tt (λ _. tt) (past_rows rows_fd refl) byte e
 
 -- the number of a vector that the opcode names is a byte
 abbrev pub vector_fits : Instruction → Bool
@@ -117,26 +117,22 @@ entry_vector_fits None = true
 
 pub listed_vectors : (opcode : Opcode) {l : Listed} → decoded_by opcode ≡ Some l → T (vector_fits l.instruction)
 unfolding decoded decoded_fd
-listed_vectors (First byte) e = entry_at entry_vector_fits decoded tt tt (past_rows rows refl) byte e
-listed_vectors (AfterFd byte) e = entry_at entry_vector_fits decoded_fd tt tt (past_rows rows_fd refl) byte e
+listed_vectors (First byte) e = entry_at (λ _. entry_vector_fits) decoded tt (λ _. tt) (past_rows rows refl) byte e
+listed_vectors (AfterFd byte) e = entry_at (λ _. entry_vector_fits) decoded_fd tt (λ _. tt) (past_rows rows_fd refl) byte e
 
 -- and it is the opcode's own byte
-abbrev pub names_itself : ℕ → Instruction → Bool
-names_itself byte (Vector nr) = eqb nr byte
-names_itself byte i = true
+abbrev pub vector_is : ℕ → Instruction → Bool
+vector_is byte (Vector nr) = eqb nr byte
+vector_is byte i = true
 
-abbrev pub entry_names_itself : ℕ → Option Listed → Bool
-entry_names_itself byte (Some l) = names_itself byte l.instruction
-entry_names_itself byte None = true
+abbrev entry_vector_is : ℕ → Option Listed → Bool
+entry_vector_is byte (Some l) = vector_is byte l.instruction
+entry_vector_is byte None = true
 
-named_at : (page : ℕ → Option Listed) → T (every (λ (b : ℕ). entry_names_itself b (page b)) 0 256) → ((b : ℕ) → 256 ≤ b → page b ≡ None)
-    → (byte : ℕ) → T (entry_names_itself byte (page byte))
-named_at page all past byte = go (ltb byte 256) refl
-  where
-    go : (b : Bool) → ltb byte 256 ≡ b → T (entry_names_itself byte (page byte))
-    go true h = test_at (λ (b : ℕ). entry_names_itself b (page b)) 256 all byte (ltb-true byte 256 h)
-    go false h = rw (past byte (ltb-false byte 256 h)) tt
+pub vector_numbers : (byte : ℕ) {i : Instruction} {n : ℕ} → decoded byte ≡ listed i n → T (vector_is byte i)
+unfolding decoded
+vector_numbers byte e = entry_at entry_vector_is decoded tt (λ _. tt) (past_rows rows refl) byte e
 
-pub vectors_named : (byte : ℕ) → T (entry_names_itself byte (decoded byte)) × T (entry_names_itself byte (decoded_fd byte))
-unfolding decoded decoded_fd
-vectors_named byte = (named_at decoded tt (past_rows rows refl) byte, named_at decoded_fd tt (past_rows rows_fd refl) byte)
+pub vector_numbers_fd : (byte : ℕ) {i : Instruction} {n : ℕ} → decoded_fd byte ≡ listed i n → T (vector_is byte i)
+unfolding decoded_fd
+vector_numbers_fd byte e = entry_at entry_vector_is decoded_fd tt (λ _. tt) (past_rows rows_fd refl) byte e

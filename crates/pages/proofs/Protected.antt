@@ -1,5 +1,6 @@
 -- The read-only part of page 0 (document 02, F-4): which writes it drops, and that it changes nothing else.
 use Rattle.std.proofs.Common.{◌≡◌, ℕ, ◌-◌, ◌<◌, ◌≤◌, ◌↔◌, Bool, true, false, cond, not, ◌&&◌, T, eqb, ltb, leb, List, [], ◌∷◌, length, sym, refl, ◌∙◌, subst, eqb-true, arith, ltb-true, lt-ltb, le-ltb, leb-true, le-leb}
+use Rattle.std.proofs.Math.Bool.{and-true}
 use Rattle.std.proofs.lemmas.Bool.{and_parts, not-true}
 use lib.Dec.{eqb_refl}
 use Rattle.arithmetic.specs.declared.record.Lh5801.{Lh5801}
@@ -49,11 +50,7 @@ stored_page0 l0 l1 r a h = rw (lt-ltb a 0x10000 h)
 
 pub stored_page1 : (l0 l1 : List ℕ) (r : ReadOnly) (a : ℕ) → 0x10000 ≤ a → stored (pages l0 l1 r) a ≡ ltb (a - 0x10000) (length l1)
 unfolding stored inside
-stored_page1 l0 l1 r a h = rw (le-ltb a 0x10000 h, page1_not_protected r a h) (and_true (ltb (a - 0x10000) (length l1)))
-  where
-    and_true : (t : Bool) → t && true ≡ t
-    and_true true = refl
-    and_true false = refl
+stored_page1 l0 l1 r a h = rw (le-ltb a 0x10000 h, page1_not_protected r a h) (and-true (ltb (a - 0x10000) (length l1)))
 
 -- a protected byte is, after any writes, what it was
 pub written_protected : {m e : Pages} {ws : List Write} → Written m ws e → (a : ℕ) → protected m.read_only a ≡ true → at e a ≡ at m a
